@@ -105,7 +105,8 @@ played_is s round old new lists list records lag played list_is round_was lag_is
 
 -- the tables and histories that its exchanges leave
 module _ {T K : Type 0} (table : T → Table) (kept : K → HistoriesView) (Fits : K → Table → Type 0) (s : Settings) (round : ℕ)
-    (u : UnderWay T K) (is : IsUnderWay table kept Fits s round u) (plan : IsRoundPlan u.begun.list) (rules : Rules) (rules_are : rules ≡ rules_of s) (new : List T) (records : List Record)
+    (u : UnderWay T K) (is : IsUnderWay table kept Fits s round u) (plan : IsRoundPlan u.begun.list)
+    (rules : Rules) (rules_are : rules ≡ rules_of s) (new : List T) (records : List Record)
     (exchanged : fold_of rules (map table u.tables.items) u.begun.list.exchanges ≡ record { tables = map table new; records = records }) where
   pub left : IsLeft table s round new (kept u.histories)
   left =
@@ -128,7 +129,8 @@ module _ {T K : Type 0} (table : T → Table) (kept : K → HistoriesView) (Fits
       subst (λ ts. IsPlayedFrom s round (tables_after s (round - 1)) (map table ts) (kept counted.histories).lists result) (sym are.same_tables)
       (subst (λ k. IsPlayedFrom s round (tables_after s (round - 1)) (map table new) (kept k).lists result) (sym are.same_histories)
       (played_is s round (tables_after s (round - 1)) (map table new) (kept u.histories).lists u.begun.list records counted.figures result is.list
-      (round_is s round u.begun.list plan is.list rules (map table u.tables.items) (map table new) records exchanged (tables_after s (round - 1)) is.tables rules_are)
+      (round_is s round u.begun.list plan is.list rules (map table u.tables.items) (map table new) records exchanged (tables_after s (round - 1))
+      is.tables rules_are)
       (are.figures_are ∙ ap (λ r. figures_of r (map table new) (lists_in (kept u.histories).lists)) is.ended.rounds)
       result_is))
 

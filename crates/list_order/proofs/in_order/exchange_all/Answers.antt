@@ -8,8 +8,9 @@ behind = record { initiator = 0; responder = 0; lost1 = false; lost2 = false; lo
 
 pub loop-i-preserved : goal.loop-i-preserved
 loop-i-preserved g c = record {
-  turned = turned_more c.args.work.rules.now c.args.work.list.now.exchanges _ (map g.T.MemoryTable.table c.args.tables.now) (map g.T.MemoryTable.table c.loop-i.tables)
-      (map g.T.MemoryTable.table c.exchange_pair.new.tables) c.loop-i.records.items _ c.loop-i.i behind c.in_ok-sent.sent
+  turned = turned_more c.args.work.rules.now c.args.work.list.now.exchanges _ (map g.T.MemoryTable.table c.args.tables.now)
+      (map g.T.MemoryTable.table c.loop-i.tables) (map g.T.MemoryTable.table c.exchange_pair.new.tables) c.loop-i.records.items _ c.loop-i.i behind
+      c.in_ok-sent.sent
       c.exchanges-plan-items.ensures.value c.push_reserved.ensures.items c.loop-i.invariant.turned c.loop-i-test.true c.in_ok-sent.ensures.exchanged;
   count = omega (arith, c.loop-i.invariant.count, c.push_reserved.ensures.len);
   room = omega (arith, c.loop-i.invariant.room, c.push_reserved.ensures.capacity);

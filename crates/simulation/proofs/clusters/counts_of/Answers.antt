@@ -30,5 +30,6 @@ push_reserved-requires g c =
 pub returns-clause-counts : goal.returns-clause-counts
 returns-clause-counts g c =
     let lists = (g.K.RoundHistories.kept c.args.histories.now).lists in
-    let all : c.loop-owner.owner ≡ length lists = omega (arith, c.loop-owner-test.false, c.loop-owner.auto.owner-end, c.requires.one_each, c.nodes-nodes.ensures.value) in
+    let all : c.loop-owner.owner ≡ length lists =
+    omega (arith, c.loop-owner-test.false, c.loop-owner.auto.owner-end, c.requires.one_each, c.nodes-nodes.ensures.value) in
     c.loop-owner.invariant.0 ∙ ap (λ n. map counted_in (take n lists)) all ∙ ap (map counted_in) (take-length lists)

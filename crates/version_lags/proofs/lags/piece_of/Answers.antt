@@ -20,10 +20,9 @@ count_behind-behind-requires g c =
 pub total_upto-requires : goal.total_upto-requires
 total_upto-requires g c =
     let numbers = c.args.numbers.now in let read = table-read g.N.Number.number numbers c.requires.0 c.loop-at.at c.index-numbers-at.result (omega arith) in
-    let grids = c.requires.0 in
     record {
       marked = record {
-        shape = subst (IsGrid _ numbers.keys) (length-map numbers.last.now g.N.Number.number ∙ sym read.1) grids.grid;
+        shape = subst (IsGrid _ numbers.keys) (length-map numbers.last.now g.N.Number.number ∙ sym read.1) c.requires.0.grid;
         count = omega (arith, length-map numbers.bases.now g.N.Number.number);
       };
     }

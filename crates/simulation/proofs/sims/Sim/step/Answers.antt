@@ -19,8 +19,10 @@ put_back-requires-clause-after g c _ _ =
 
 pub returns-clause-fails : goal.returns-clause-fails
 returns-clause-fails g c =
-    step_failed c.in_ok-cluster.ensures.taken c.resources-resources.ensures.same c.self.view_is c.put_back.new.self c.args.workers c.play_apart-played.result c.put_back.result
-    (subst (λ n. IfErr c.play_apart-played.result (IsFaultOfWorkers n)) c.resources-resources.ensures.workers c.play_apart-played.ensures.fault) c.put_back.ensures
+    step_failed c.in_ok-cluster.ensures.taken c.resources-resources.ensures.same c.self.view_is c.put_back.new.self c.args.workers
+    c.play_apart-played.result c.put_back.result
+    (subst (λ n. IfErr c.play_apart-played.result (IsFaultOfWorkers n)) c.resources-resources.ensures.workers c.play_apart-played.ensures.fault)
+    c.put_back.ensures
 
 pub returns-clause-played : goal.returns-clause-played
 returns-clause-played g c =

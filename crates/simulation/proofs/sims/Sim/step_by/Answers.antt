@@ -19,7 +19,8 @@ put_back-requires-clause-after g c _ _ =
 
 pub returns-clause-fails : goal.returns-clause-fails
 returns-clause-fails g c =
-    step_failed c.in_ok-cluster.ensures.taken c.resources-resources.ensures.same c.self.view_is c.put_back.new.self c.args.posts.now c.play-played.result c.put_back.result
+    step_failed c.in_ok-cluster.ensures.taken c.resources-resources.ensures.same c.self.view_is c.put_back.new.self c.args.posts.now
+    c.play-played.result c.put_back.result
     (fault_of_memory c.args.posts.now c.play-played.result c.play-played.ensures.only) c.put_back.ensures
 
 pub returns-clause-played : goal.returns-clause-played

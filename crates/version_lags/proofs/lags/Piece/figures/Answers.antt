@@ -33,8 +33,7 @@ loop-owner-preserved-then-is_upto g c =
     let since = c.saturating_sub-since.result in let first = c.index-first.result.now in
     let walk =
     may-walk c.requires c.deref.result c.deref.ensures.value c.in_ok-firsts.firsts.items c.in_ok-firsts.ensures r lt first c.index-first.ensures in
-    let row = c.row-row.result.now in
-    let read = number-at number row r c.index-row-owner.result (omega (arith, length-map row number)) c.index-row-owner.is in
+    let row = c.row-row.result.now in let read = number-at number row r c.index-row-owner.result (omega (arith, length-map row number)) c.index-row-owner.is in
     let after = leb-true (number c.index-row-owner.result) (number first) (sym c.is_upto.ensures ∙ c.if-is_upto.true) in
     let lag = λ (o : ℕ). most_lag numbers.keys numbers.ends.rounds (list_of_owner numbers.lists.now o)
     (cell (map number c.deref.result.now) (length numbers.lists.now) o) in

@@ -1,5 +1,5 @@
 -- Where generations start in an owner's list.
--- Serves `put_starts` and `version_tables`.
+-- Serves `put_starts`, `start_of` and `version_tables`.
 use Rattle.delta_plans.proofs.Common.{◌≡◌, ℕ, ◌-◌, ◌<◌, ◌≤◌, List, length, get_or, refl, sym, ap, ◌∙◌, arith, get_or_default, get_or-append_right, length-append, Entry, OwnerListView, all_writes, entries_of, no_writes, AreWrites, start_before, start_of, numbered-placed, numbered-some}
 
 -- an owner's writes are those of its list

@@ -1,5 +1,6 @@
 -- What these proofs cite of other libraries and of this crate's definitions, passed on from one place.
--- Serves the functions of `grids`, `owners` and `planes`, `Behind`, `Counts`, `Elementwise`, `Places`, `delta_plans` and `grids`.
+-- Serves the functions of `grids`, `owners` and `planes`, `Behind`, `Counts`, `Elementwise`, `Places`, `delta_plans`
+-- and `grids`.
 pub use Rattle.std.proofs.Common.{Bool, Fits, List, ap, arith, cond, drop, false, get_or, if◌then◌else◌, inl, inr, length, map, max, min, nat_le, nat_lt, refl, replicate, rules, set, slice_index, subst, suc, sym, take, true, w64, zero, ℕ, ◌&&◌, ◌*◌, ◌+◌, ◌-◌, ◌<◌, ◌==◌, ◌∙◌, ◌≡◌, ◌≢◌, ◌≤◌, ◌⊎◌}
 pub use Rattle.std.proofs.Math.Nat.{mul-le-mul_right}
 pub use Rattle.std.proofs.Math.Seq.{take-nil}

@@ -1,5 +1,5 @@
 -- The cells of a line, pushed column by column.
--- Serves `push_columns` and `cell`.
+-- Serves `Told::cell` and `push_columns`.
 use Rattle.std.proofs.Common.{◌≡◌, ℕ, ◌<◌, ◌≤◌, Bool, true, nat_le, List, ◌++◌, length, take, get_or, map, filter, ap, sym, refl, false, ◌+◌, ◌∷◌, [], ◌∙◌, append_assoc, append-nil, length-append, arith}
 use Rattle.std.specs.Prelude.{IsTrue}
 use Rattle.std.specs.List.{list_all}

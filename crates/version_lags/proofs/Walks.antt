@@ -30,8 +30,7 @@ module _ {list : OwnerListView} {keys round most first : ℕ} {least : ℕ → �
   -- no write is of a later round
   pub born-upto : (m : ℕ) (e : Entry) → write_numbered all m ≡ Some e → e.born ≤ round
   born-upto m e is =
-      let at = numbered-placed all m e is in
-      omega (arith, walks.born at.place e at.within, ap (λ (x : Entry). x.born) (at.there e))
+      let at = numbered-placed all m e is in omega (arith, walks.born at.place e at.within, ap (λ (x : Entry). x.born) (at.there e))
 
   -- where all behind the number was written after a round, none has been behind for longer than since then
   pub lag-recent : (since mark longest : ℕ) → IsRoundMark all 0 since mark → mark ≤ first → round ≤ since + longest → most_lag keys round list least ≤ longest

@@ -80,8 +80,7 @@ returns-then-key-size g c =
 
 pub returns-else-key-size : goal.returns-else-key-size
 returns-else-key-size g c =
-    let all : c.loop-key.key ≡ c.args.grid.size.keys = omega arith in
-    rw (← all) c.loop-key.invariant.each
+    let all : c.loop-key.key ≡ c.args.grid.size.keys = omega arith in rw (← all) c.loop-key.invariant.each
 
 pub overflow_mul-start : goal.overflow_mul-start
 overflow_mul-start g c = plane-fits _ _ _ c.loop-key.key c.requires.marked.shape (omega arith)

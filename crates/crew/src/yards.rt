@@ -148,10 +148,11 @@ impl<D: Drop> Yard<D> {
         for _ in rt.forever() {
             let left = self.under_way.load(Ordering::SeqCst);
             if left == 0 {
-                break;
+                return;
             }
             self.under_way.park(rt, (left % (1 << 32)) as u32);
         }
+        unreachable!()
     }
 
     /// Sends the first so many threads home. One that has something to do should have finished it, as that would be

@@ -318,9 +318,10 @@ fn serve<T: MemoryTable, X: Exchanging<T> + Drop, G: Gate + Drop, J: Job, R: Wai
 {
     for _ in rt.forever() {
         let Some(duty) = yard.next(rt, i) else {
-            break;
+            return;
         };
         duty.carry_out(rt);
         yard.finish();
     }
+    unreachable!()
 }

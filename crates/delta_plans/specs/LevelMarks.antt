@@ -1,4 +1,5 @@
--- A delta as marks of owners: whole levels, and of the next what comes before what doesn't fit. Source: this project.
+-- A delta as marks, one for each owner: whole levels, and of the level that doesn't fit what comes before the first
+-- candidate that doesn't. Source: this project.
 use Rattle.std.specs.Prelude.{◌≡◌, ℕ, ◌<◌, ◌≤◌, List, Option, Some, None, nat_lt, nat_le, not, Bool, if◌then◌else◌}
 use Rattle.delta_plans.specs.Common.{sum_below, Entry, First, Oldest, Newest, Mode, ScuttleBreadth, ScuttleDepth, PreciseOldest, PreciseNewest, write_numbered, Cells, count_above, Item}
 

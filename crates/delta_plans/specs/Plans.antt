@@ -1,4 +1,5 @@
--- Levels of what is offered: near marks let through whole ones, far marks one more, too much. Source: this project.
+-- Levels of what is offered, as marks: near marks let through whole levels, and far marks one level more, which doesn't
+-- fit. Source: this project.
 use Rattle.std.specs.Prelude.{◌≡◌, ◌⊎◌, ℕ, ◌+◌, ◌<◌, ◌≤◌, nat_le, List, length, map, if◌then◌else◌}
 use Rattle.delta_plans.specs.Common.{First, amount_of, Cells, HasEach, HasNoneAbove, IsLeastAbove, MOST_KEYS, Offer, Level, Step}
 use Rattle.delta_plans.specs.OfferInMemory.{cells_in, low_in, high_in, owner_count_in, marks, weights_in, count_in, IsOffer}

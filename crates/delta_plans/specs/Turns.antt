@@ -14,7 +14,8 @@ pub record StopsBefore (first : First) (cells : Cells) (keys owner low near far 
   pub inside : lets_through first far next ≡ true
   pub own : (k : ℕ) → k < keys → lets_through first mark (cells owner k) ≡ comes_first first (cells owner k) next
 
--- marks that stop at an owner's number: of the others, those in turn before it have the far mark, the rest the near one
+-- marks that stop at an owner's number: of the others, those whose turn is before its owner's have the far mark, and
+-- those whose turn is behind it the near one
 pub record StopAt (first : First) (rotation nodes keys : ℕ) (cells : Cells) (low near far mark : ℕ → ℕ) : Type 0 where
   pub owner : ℕ
   pub key : ℕ
@@ -50,7 +51,8 @@ abbrev pub part_weight : {N : Type 0} → (N → ℕ) → (ℕ → ℕ) → Turn
 part_weight number weight turns owner =
     weight_to number weight turns owner (marks number turns.near.now owner) (marks number turns.far.now owner)
 
--- two marks on the way from a near one to a far one: up to the first all fits and leaves so much, up to the second not
+-- two marks on the way from a near to a far one: numbers up to the first fit into some room, and leave so much, and
+-- those up to the second don't
 pub record IsStopBetween (first : First) (weight : ℕ → ℕ) (cells : Cells)
     (keys owner near far room mark beyond left : ℕ) : Type 0 where
   pub on : IsOn first near mark

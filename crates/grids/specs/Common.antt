@@ -1,5 +1,4 @@
--- The names of other definitions that these definitions, contracts and proofs cite, passed on from one place. Declares
--- nothing.
+-- The names of other definitions that these ones, contracts and proofs cite, from one place. Declares nothing.
 pub use Rattle.limits.specs.declared.TheConstants.{MOST_KEYS, MOST_NODES}
 pub use Rattle.grids.specs.declared.grids.Masked.{Masked}
 pub use Rattle.grids.specs.declared.grids.Peer.{Peer}

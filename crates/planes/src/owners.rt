@@ -1,5 +1,4 @@
-//! Loops over a few owners of a table, each over all of its keys. The others have nothing above a mark, and are passed
-//! over.
+//! Loops over a few owners of a table, each over all of its keys: the others have nothing above a mark.
 
 ghost use Rattle.std.specs.Prelude.{◌≡◌, ◌≤◌, length, map};
 ghost use Rattle.limits.specs.declared.TheConstants.{MOST_NODES};

@@ -1,5 +1,4 @@
--- The names of other definitions that these definitions, contracts and proofs cite, passed on from one place. Declares
--- nothing.
+-- The names of other definitions that these ones, contracts and proofs cite, from one place. Declares nothing.
 pub use Rattle.bench_types.specs.Mark.{mark_held}
 pub use Rattle.limits.specs.Sums.{most_below, sum_below}
 pub use Rattle.bench_types.specs.declared.entries.Entry.{Entry}

@@ -1,5 +1,4 @@
--- The names of other definitions that these definitions, contracts and proofs cite, passed on from one place. Declares
--- nothing.
+-- The names of other definitions that these ones, contracts and proofs cite, from one place. Declares nothing.
 pub use Rattle.std.specs.Coded.{Coded, code_by, coded_list, coded_ℕ, coded×}
 pub use Rattle.std.specs.FinMap.{entries, len-entries}
 pub use Rattle.std.specs.Prelude.{All, Bool, Contains, IfOk, IsOkUnless, IsTrue, List, OnErr, OnOk, Result, Some, count_by, false, length, map, max, nat_le, nat_lt, refl, slice_index, take, true, ℕ, ◌||◌}

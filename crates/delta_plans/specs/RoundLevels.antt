@@ -24,8 +24,8 @@ pub record AreRaised {N : Type 0} (number : N → ℕ) (most : ℕ) (rounds : Ro
   pub above : (r : ℕ) → r < rounds.offer.now.grid.size.nodes
       → low_in number rounds.offer.now r ≤ marks number mark r
 
--- it is found of what marks let through how many numbers these are, that they fit, and what they leave if that is known,
--- or that they don't fit
+-- it is found of what marks let through how many numbers these are, that they fit, and what they leave if that is
+-- known, or that they don't fit
 abbrev pub IsFound : {N : Type 0} → (N → ℕ) → Rounds N → (ℕ → ℕ) → Option Fit → Type 0
 IsFound number rounds mark (Some fit) =
     (fit.count ≡ count_on rounds.first number rounds.offer.now mark)

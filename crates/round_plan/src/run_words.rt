@@ -16,11 +16,21 @@ use std::marker::Model;
 /// The random words of all nodes in one round of a run, each node's from a stream of its own. Round
 /// by round each stream goes on where it stands, so a round costs one block of words for each node,
 /// and no stream is begun anew.
-#[derive(Drop)]
 pub struct RunWords {
     seed: u64,
     round: u32,
     parts: Vec<NodeWords>,
+}
+
+// Written out: a derived drop is proved once more in each crate that lets the words go.
+impl Drop for RunWords {
+    fn drop(self) {
+        let RunWords {
+            seed: _,
+            round: _,
+            parts: _,
+        } = self;
+    }
 }
 
 // A node's stream, and its words of the round.

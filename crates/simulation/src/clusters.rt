@@ -138,7 +138,7 @@ impl<
             },
         );
         drop(posts);
-        answer.unwrap_or(Err(Fault::NoThread))
+        answer.ok().ok_or(Fault::NoThread).flatten()
     }
 }
 

@@ -199,7 +199,7 @@ impl<
     /// Starts the threads, if there are several workers, calls `body` with what is lent and sends them home. Where one
     /// can't be started, what was lent comes back. It goes by value, since a scope says nothing of a `&mut` that its
     /// closure holds.
-    pub fn with_threads<R: Threads + Wait + Sync, D: Drop, F: FnOnce(D) -> A + Drop, A: Drop>(
+    pub fn with_threads<R: Threads + Wait + Sync, D: Drop, F: FnOnce(D) -> A + Drop, A>(
         &self,
         rt: &R,
         lent: D,

@@ -85,3 +85,8 @@ def try_groups(room):
         _, crate, _ = toy(room, f"together {at}", said)
         found = crate.refused(crate.edits, crate.check(crate.edits)).values()
         holds(f"together: {said}", wanted, " ".join("refused" if it else "unknown" for it in found))
+    for at, (said, wanted) in enumerate(SAID["refused"].items()):
+        _, crate, read = toy(room, f"refused {at}", said)
+        found = crate.refused_together(crate.edits)
+        holds(f"refused: {said}", wanted, " ".join(Path(it.name).stem for it in found))
+        holds(f"its checks: {said}", said.count(",") + 1, len(read))

@@ -1,6 +1,6 @@
 //! Threads that carry out one list after another.
 
-use crate::tests::comparing::expect;
+use crate::tests::comparing::{check, expect};
 use crate::tests::gates::Meeting;
 use crate::tests::pools::run_fresh;
 use crate::tests::small_boards::{CROSSING, ONE_ENTRY, TWICE, list_of};
@@ -85,7 +85,7 @@ fn records_of<R: Abort + AllocGlobal + Wait, G: Gate + Drop>(
         gate,
     };
     let done = posts.carry_out(rt, batch, tables, || ())?;
-    assert!(rt; !done.shared.lacks_memory);
+    check!(rt; !done.shared.lacks_memory);
     Ok(done.records)
 }
 
@@ -159,6 +159,6 @@ fn two_exchanges_at_once_by_a_crew(rt: HostRuntime) -> Result<(), Fault> {
     let list = list_of(&rt, 4, TWICE);
     let records = records_by_two(&rt, &list, &gate)?;
     expect(&rt, records.len(), list.len() as usize);
-    assert!(rt; gate.has_met());
+    check!(&rt; gate.has_met());
     Ok(())
 }

@@ -9,6 +9,7 @@ ghost use Rattle.model.specs.calls.Exchanging.{MayBeExchanged};
 ghost use Rattle.node_table.specs.NodeTableView.{kept_table};
 ghost use Rattle.board.specs.Boards.{plan_of, IsSeatOf, IsHoldOf, seat_view};
 
+use crate::tests::comparing::check;
 use crate::tests::small_boards::board_of;
 use crate::tests::tables::{Board, Hold, Seat};
 use bench_types::{Exchange, Fault, Rules};
@@ -79,8 +80,8 @@ pub(crate) fn expect_tables_of(
 )
     ensures { MayBeExchanged plan.now initiator.now.table responder.now.table }
 {
-    assert!(rt; initiator.node() == plan.initiator && responder.node() == plan.responder);
-    assert!(rt;
+    check!(rt; initiator.node() == plan.initiator && responder.node() == plan.responder);
+    check!(rt;
         initiator.nodes() == responder.nodes()
             && initiator.keys() == responder.keys()
             && plan.rotation < initiator.nodes()

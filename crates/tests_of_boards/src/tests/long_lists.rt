@@ -5,7 +5,7 @@ ghost use Rattle.limits.specs.declared.TheConstants.{MOST_WORKERS};
 ghost use Rattle.bench_types.specs.calls.Budget.{IsLawfulBudget};
 ghost use Rattle.tests_of_boards.specs.declared.tests.long_lists.TheConstants.{NODES};
 
-use crate::tests::comparing::expect;
+use crate::tests::comparing::{check, expect};
 use crate::tests::jobs::{Job, expect_tables_of};
 use crate::tests::pools::run_fresh;
 use crate::tests::threads::{Order, Worked, work_in_four, work_in_three, work_in_two};
@@ -72,7 +72,7 @@ fn long_list(rt: &(impl Abort + AllocGlobal)) -> RoundList
         exchanges.push(drawn(&mut numbers)).expect(rt, "memory");
     }
     let list = RoundList::of(NODES, 0, exchanges).expect(rt, "a list of these nodes");
-    assert!(rt; list.nodes() == NODES && list.len() == EXCHANGES);
+    check!(rt; list.nodes() == NODES && list.len() == EXCHANGES);
     list
 }
 
@@ -109,7 +109,7 @@ fn exchange_two(
 {
     let initiator = plan.initiator as usize;
     let responder = plan.responder as usize;
-    assert!(rt; initiator < tables.len() && responder < tables.len() && initiator != responder);
+    check!(rt; initiator < tables.len() && responder < tables.len() && initiator != responder);
     let (initiator, responder) = if initiator < responder {
         let (below, from) = tables.split_at_mut(responder);
         (&mut below[initiator], &mut from[0])
@@ -129,7 +129,7 @@ fn holds_the_same(one: &NodeTable, two: &NodeTable) -> bool {
 
 fn expect_the_same(rt: &impl Abort, tables: &[NodeTable], wanted: &[NodeTable]) {
     expect(rt, tables.len(), wanted.len());
-    assert!(rt;
+    check!(rt;
         tables
             .iter()
             .zip(wanted)
@@ -141,7 +141,7 @@ fn expect_the_same(rt: &impl Abort, tables: &[NodeTable], wanted: &[NodeTable]) 
 fn expect_each_once(rt: &impl Abort, mut made: Vec<u32>) {
     made.sort_unstable();
     expect(rt, made.len(), EXCHANGES as usize);
-    assert!(rt; made.iter().zip(0..EXCHANGES).all(|(i, at)| *i == at));
+    check!(rt; made.iter().zip(0..EXCHANGES).all(|(i, at)| *i == at));
 }
 
 // Each board is done by two, three and four threads, and each list by so many workers.
@@ -176,7 +176,7 @@ fn expect_pooled<R: Abort + AllocGlobal + Threads + Wait + Sync>(
 {
     let (tables, records) = run_fresh(rt, list, KEYS, rules, workers, &FreeGate)?;
     expect_the_same(rt, &tables, &wanted.tables);
-    assert!(rt; *records == *wanted.records);
+    check!(rt; *records == *wanted.records);
     Ok(())
 }
 

@@ -4,7 +4,7 @@ ghost use Rattle.std.specs.Prelude.{◌≤◌};
 ghost use Rattle.limits.specs.declared.TheConstants.{MOST_WORKERS, MOST_KEYS};
 ghost use Rattle.bench_types.specs.calls.Budget.{IsLawfulBudget};
 
-use crate::tests::comparing::expect;
+use crate::tests::comparing::{check, expect};
 use crate::tests::gates::{Call, Gathering, Handover, Meeting, Notes, Theft};
 use crate::tests::small_boards::{CROSSING, ONE_ENTRY, TWICE, list_of};
 use bench_types::limits::{MOST_KEYS, MOST_WORKERS};
@@ -51,7 +51,7 @@ fn expect_counts(
     count: u32,
     exchanges: u32,
 ) {
-    assert!(rt; tables.iter().all(|table| table.count() == count));
+    check!(rt; tables.iter().all(|table| table.count() == count));
     expect(rt, records.len(), exchanges as usize);
 }
 
@@ -133,8 +133,8 @@ fn an_exchange_is_put_back_before_it_is_left(rt: HostRuntime) -> Result<(), Faul
     let gate = Handover::new();
     let list = list_of(&rt, 4, BRIDGED);
     let (tables, records) = run_fresh(&rt, &list, 1, &ONE_ENTRY, 2, &gate)?;
-    assert!(rt; gate.has_happened());
-    assert!(rt; tables.len() == 4 && records.len() == 3);
+    check!(&rt; gate.has_happened());
+    check!(&rt; tables.len() == 4 && records.len() == 3);
     Ok(())
 }
 
@@ -142,7 +142,7 @@ fn an_exchange_is_put_back_before_it_is_left(rt: HostRuntime) -> Result<(), Faul
 fn as_many_threads_as_workers(rt: HostRuntime) -> Result<(), Fault> {
     let gate = Gathering::of(3);
     expect_run(&rt, &list_of(&rt, 6, THREE_PAIRS), 3, &gate, 2)?;
-    assert!(rt; gate.has_gathered());
+    check!(&rt; gate.has_gathered());
     Ok(())
 }
 
@@ -150,7 +150,7 @@ fn as_many_threads_as_workers(rt: HostRuntime) -> Result<(), Fault> {
 fn two_exchanges_at_once(rt: HostRuntime) -> Result<(), Fault> {
     let gate = Meeting::new();
     expect_run(&rt, &list_of(&rt, 4, TWICE), 2, &gate, 2)?;
-    assert!(rt; gate.has_met());
+    check!(&rt; gate.has_met());
     Ok(())
 }
 
@@ -158,7 +158,7 @@ fn two_exchanges_at_once(rt: HostRuntime) -> Result<(), Fault> {
 fn stealing_from_the_other_deque(rt: HostRuntime) -> Result<(), Fault> {
     let gate = Theft::new();
     expect_run(&rt, &list_of(&rt, 8, FOUR_PAIRS), 2, &gate, 2)?;
-    assert!(rt; gate.has_happened());
+    check!(&rt; gate.has_happened());
     Ok(())
 }
 

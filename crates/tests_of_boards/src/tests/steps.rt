@@ -1,5 +1,6 @@
 //! Rounds of a simulation by several workers.
 
+use crate::tests::comparing::check;
 use crate::tests::gates::Meeting;
 use bench::Sim;
 use bench_types::Fault;
@@ -28,7 +29,7 @@ fn expect_meeting(rt: &(impl Abort + Threads + Wait + Sync), sim: &mut Sim) -> R
     let gate = Meeting::new();
     sim.step(rt, 2, &FreeGate)?;
     sim.step(rt, 2, &gate)?;
-    assert!(rt; gate.has_met());
+    check!(rt; gate.has_met());
     Ok(())
 }
 

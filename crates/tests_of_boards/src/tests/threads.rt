@@ -5,6 +5,7 @@ ghost use Rattle.node_table.specs.NodeTableView.{kept_table};
 ghost use Rattle.board.specs.Boards.{exchanges_of, IsSeatOf};
 ghost use Rattle.tests_of_boards.specs.Seats.{AreSeatsOf};
 
+use crate::tests::comparing::check;
 use crate::tests::jobs::Job;
 use crate::tests::small_boards::{CROSSING, ONE_ENTRY, list_of};
 use crate::tests::tables::{Board, Seat};
@@ -170,6 +171,6 @@ fn two_threads_on_one_board(rt: HostRuntime) -> Result<(), Fault> {
     let worked = work_in_two(&rt, &job, (first, second), Order::Ascending);
     let Job { board, .. } = job;
     let tables = board.close(worked.seat)?;
-    assert!(rt; tables.len() == 8 && tables.iter().all(|table| table.count() == 3));
+    check!(&rt; tables.len() == 8 && tables.iter().all(|table| table.count() == 3));
     Ok(())
 }

@@ -6,7 +6,7 @@ ghost use Rattle.board.specs.SeatView.{first_seat};
 ghost use Rattle.node_table.specs.NodeTableView.{kept_table};
 ghost use Rattle.board.specs.Boards.{plan_of, exchanges_of, IsSeatOf, IsHoldOf, seat_view};
 
-use crate::tests::comparing::expect;
+use crate::tests::comparing::{check, expect};
 use crate::tests::jobs::Job;
 use crate::tests::seats::expect_claim;
 use crate::tests::small_boards::{ONE_ENTRY, list_of};
@@ -78,7 +78,7 @@ fn second_of_two(rt: &(impl Abort + AllocGlobal), job: &Job, second: &mut Seat) 
     ensures second { IsSeatOf kept_table second.new job.now.board }
 {
     let hold = held(rt, &job.board, second, 1);
-    assert!(rt; hold.initiator.count() == 2 && hold.responder.count() == 2);
+    check!(rt; hold.initiator.count() == 2 && hold.responder.count() == 2);
     expect_next(rt, job, second, hold, None)
 }
 
@@ -86,7 +86,7 @@ fn expect_both_entries(rt: &impl Abort, board: Board, seat: Seat) -> Result<(), 
     requires seat { IsSeatOf kept_table seat board }
 {
     let tables = board.close(seat)?;
-    assert!(rt; tables.len() == 2 && tables[0].count() == 2 && tables[1].count() == 2);
+    check!(rt; tables.len() == 2 && tables[0].count() == 2 && tables[1].count() == 2);
     Ok(())
 }
 

@@ -1,6 +1,6 @@
 //! Sources and sinks that work and that fail.
 
-use crate::tests::comparing::expect;
+use crate::tests::comparing::{check, expect};
 use bench_types::{Discard, Failed, Pull, Push, Sink, Source};
 use std::alloc::AllocGlobal;
 use std::io;
@@ -97,7 +97,7 @@ fn expect_pulled(
     front: &[u8],
 ) {
     expect(rt, source.pull(buffer), answer);
-    assert!(rt; front.len() <= buffer.len());
+    check!(rt; front.len() <= buffer.len());
     expect(rt, &buffer[..front.len()], front);
 }
 

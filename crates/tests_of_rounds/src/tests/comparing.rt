@@ -1,4 +1,6 @@
-//! How the tests compare.
+//! How the tests compare. An assertion costs seconds to prove, so they stand in few functions.
+
+ghost use Rattle.std.specs.Prelude.{IsTrue};
 
 use std::alloc::AllocGlobal;
 use std::fmt::{Debug, Display};
@@ -24,3 +26,19 @@ pub(crate) fn expect_printed(rt: &(impl Abort + AllocGlobal), value: &impl Displ
     let printed = value.to_string(rt.alloc()).expect(rt, "memory");
     expect(rt, printed.as_str(), text);
 }
+
+/// What `check!` calls, with the text of what is to hold.
+pub(crate) fn check_text(rt: &impl Abort, holds: bool, text: &str)
+    ensures { IsTrue holds }
+{
+    assert!(rt; holds, "{text}");
+}
+
+// Goes on where this holds, and else says what doesn't.
+macro_rules! check {
+    ($rt:expr; $holds:expr) => {
+        crate::tests::comparing::check_text($rt, $holds, stringify!($holds))
+    };
+}
+
+pub(crate) use check;

@@ -1,6 +1,6 @@
 //! Lines that are written to sinks that fail.
 
-use crate::tests::comparing::expect_at;
+use crate::tests::comparing::{check, expect_at};
 use crate::tests::exchange_lists::{PAIR, list_of};
 use crate::tests::written_lines::{
     REPORT_HEADER, TRACE_HEADER, TWO_NODES, TWO_NODES_LINE, TWO_NODES_TRACE, two_nodes_records,
@@ -141,7 +141,7 @@ fn write(
     format: u32,
     lines: Lines,
 ) -> Result<(), Fault> {
-    assert!(rt; format == 1 || format == 2);
+    check!(rt; format == 1 || format == 2);
     match lines {
         Lines::ReportHeader => report_header(rt.alloc(), sink, format),
         Lines::ReportRow => write_report_row(rt.alloc(), sink, format, &TWO_NODES),
@@ -154,7 +154,7 @@ fn write(
 
 fn write_trace(rt: &(impl Abort + AllocGlobal), sink: &mut Push<Fragile>) -> Result<(), Fault> {
     let list = list_of(rt, 2, PAIR);
-    assert!(rt; list.len() == 2);
+    check!(rt; list.len() == 2);
     write_trace_rows(rt.alloc(), sink, 1, &list, &two_nodes_records())
 }
 

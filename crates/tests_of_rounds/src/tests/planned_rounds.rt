@@ -1,6 +1,6 @@
 //! Rounds of rings that can be followed by hand: their lists, who is out of reach, and the writes.
 
-use crate::tests::comparing::{expect, expect_at};
+use crate::tests::comparing::{check, expect, expect_at};
 use crate::tests::exchange_lists::{CROSSING, between, list_of, try_list_of};
 use crate::tests::small_scenarios::{
     PLAIN, RING, RING_IN_BYTES, expect_counts, listed, scenario_of,
@@ -114,15 +114,15 @@ const FIRST_WRITES: [OwnWrite; 3] = [
 ];
 
 fn expect_peer(rt: &impl Abort, scenario: &Scenario, node: u32, round: u32, wanted: u32) {
-    assert!(rt; node < scenario.nodes());
-    assert!(rt; round >= 1 && round <= MOST_ROUNDS);
+    check!(rt; node < scenario.nodes());
+    check!(rt; round >= 1 && round <= MOST_ROUNDS);
     expect_at(rt, peer(scenario, node, round), wanted, (node, round));
 }
 
 // Whether a node is up, and whether it restarts.
 fn expect_node(rt: &impl Abort, scenario: &Scenario, node: u32, round: u32, wanted: (bool, bool)) {
-    assert!(rt; node < scenario.nodes());
-    assert!(rt; round >= 1 && round <= MOST_ROUNDS);
+    check!(rt; node < scenario.nodes());
+    check!(rt; round >= 1 && round <= MOST_ROUNDS);
     let is_up = is_up(scenario, node, round);
     let restarts = restarts_now(scenario, node, round);
     expect_at(rt, (is_up, restarts), wanted, (node, round));
@@ -130,8 +130,8 @@ fn expect_node(rt: &impl Abort, scenario: &Scenario, node: u32, round: u32, want
 
 // Whether a node is up, restarts and forgets.
 fn expect_forgets(rt: &impl Abort, scenario: &Scenario, node: u32, round: u32, wanted: [bool; 3]) {
-    assert!(rt; node < scenario.nodes());
-    assert!(rt; round >= 1 && round <= MOST_ROUNDS);
+    check!(rt; node < scenario.nodes());
+    check!(rt; round >= 1 && round <= MOST_ROUNDS);
     let is_up = is_up(scenario, node, round);
     let restarts = restarts_now(scenario, node, round);
     let forgets = forgets_now(scenario, node, round);
@@ -139,19 +139,19 @@ fn expect_forgets(rt: &impl Abort, scenario: &Scenario, node: u32, round: u32, w
 }
 
 fn expect_any_restart(rt: &impl Abort, scenario: &Scenario, round: u32, wanted: bool) {
-    assert!(rt; round >= 1 && round <= MOST_ROUNDS);
+    check!(rt; round >= 1 && round <= MOST_ROUNDS);
     expect_at(rt, any_restart_now(scenario, round), wanted, round);
 }
 
 fn expect_writes_in(rt: &impl Abort, scenario: &Scenario, round: u32, wanted: u32) {
-    assert!(rt; round >= 1 && round <= MOST_ROUNDS);
+    check!(rt; round >= 1 && round <= MOST_ROUNDS);
     expect_at(rt, writes_in(scenario, round), wanted, round);
 }
 
 // Nodes 0 and 1, either way.
 fn expect_separated(rt: &impl Abort, scenario: &Scenario, round: u32, wanted: bool) {
-    assert!(rt; scenario.nodes() == 2);
-    assert!(rt; round >= 1 && round <= MOST_ROUNDS);
+    check!(rt; scenario.nodes() == 2);
+    check!(rt; round >= 1 && round <= MOST_ROUNDS);
     let there = separated(scenario, 0, 1, round);
     let back = separated(scenario, 1, 0, round);
     expect_at(rt, (there, back), (wanted, wanted), round);
@@ -192,7 +192,7 @@ fn expect_writes(rt: &impl Abort, writes: &Writes) {
 
 // Those in round 1 of node 2, which is down then, and of node 1.
 fn expect_first_writes(rt: &impl Abort, scenario: &Scenario) {
-    assert!(rt; scenario.nodes() == 3);
+    check!(rt; scenario.nodes() == 3);
     let down = writes_of(scenario, 2, 1, 0);
     let up = writes_of(scenario, 1, 1, 0);
     expect(rt, (down.is_empty(), up.len()), (true, 5));
@@ -224,7 +224,7 @@ fn peers_on_a_ring(rt: HostRuntime) {
 fn writes_in_a_cycle(rt: HostRuntime) {
     let scenario = scenario_of(&rt, &[RING, "nodes = 2\n", PLAIN]);
     expect_writes_in(&rt, &scenario, 2, 3);
-    assert!(rt; scenario.nodes() > 1);
+    check!(&rt; scenario.nodes() > 1);
     let writes = writes_of(&scenario, 1, 2, 3);
     expect(&rt, (writes.len(), writes.is_empty()), (3, false));
     expect_writes(&rt, &writes);

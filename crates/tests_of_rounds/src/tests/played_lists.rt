@@ -1,6 +1,6 @@
 //! Schedules of lists of four nodes, carried out.
 
-use crate::tests::comparing::{expect, expect_at};
+use crate::tests::comparing::{check, expect, expect_at};
 use crate::tests::exchange_lists::{CROSSING, TWICE, list_of};
 use bench_types::{Budget, Fate, Fault, Mode, Record, Rules};
 use fixtures::{WRITTEN, Writers, tables_of};
@@ -48,7 +48,7 @@ fn played(
     list: &RoundList,
     events: &[Event],
 ) -> Result<(Vec<NodeTable>, Vec<Record>), Fault> {
-    assert!(rt; list.nodes() == 4);
+    check!(rt; list.nodes() == 4);
     let rules = Rules {
         mode: Mode::ScuttleBreadth,
         budget: Budget::Entries(10),

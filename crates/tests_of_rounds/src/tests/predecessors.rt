@@ -1,6 +1,6 @@
 //! What the exchanges of small lists wait for.
 
-use crate::tests::comparing::{expect, expect_at};
+use crate::tests::comparing::{check, expect, expect_at};
 use crate::tests::exchange_lists::{CROSSING, PAIR, TWICE, between, list_of};
 use planner::{After, Deps, Schedule};
 use std::alloc::AllocGlobal;
@@ -48,7 +48,7 @@ fn expect_deps(
     ready: &[u32],
 ) {
     expect_pending(rt, deps, pending);
-    assert!(rt; deps.len() > 0);
+    check!(rt; deps.len() > 0);
     let (first, second) = after;
     expect(rt, deps.after(0), After { first, second });
     expect(rt, deps.first_ready(), ready);
@@ -67,7 +67,7 @@ fn expect_start(rt: &impl Abort, mut schedule: Schedule, finished: &[u32], i: u3
 fn two_nodes_that_meet_twice(rt: HostRuntime) {
     let deps = deps_of(&rt, 2, PAIR);
     expect_deps(&rt, &deps, &[0, 1], (Some(1), None), &[0]);
-    assert!(rt; deps.len() == 2);
+    check!(&rt; deps.len() == 2);
     expect(&rt, deps.exchange(1), between(1, 0));
     for (finished, starts) in STARTS_OF_THE_SECOND {
         expect_start(&rt, schedule_of(&rt, 2, PAIR), finished, 1, *starts);

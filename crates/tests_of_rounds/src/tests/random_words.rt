@@ -1,6 +1,6 @@
 //! The words of nodes, and what a round takes from them.
 
-use crate::tests::comparing::{expect, expect_at};
+use crate::tests::comparing::{check, expect, expect_at};
 use crate::tests::exchange_lists::between;
 use crate::tests::small_scenarios::{PLAIN, RANDOM, expect_counts, listed, scenario_of};
 use crate::tests::word_tables::{NODES, PLACES, SEEDS, WORDS};
@@ -69,8 +69,8 @@ const LOSSES: &[(&str, [bool; 3])] = &[
 // The word at a place of a node's stream, in which the rounds' words stand one round behind another.
 fn expect_word(rt: &impl Abort, scenario: &Scenario, node: u32, place: u32, word: u32) {
     let round = place / ROUND_WORDS + 1;
-    assert!(rt; node < scenario.nodes());
-    assert!(rt; round <= MOST_ROUNDS);
+    check!(rt; node < scenario.nodes());
+    check!(rt; round <= MOST_ROUNDS);
     let found = draw(scenario, node, round, place % ROUND_WORDS);
     expect_at(rt, found, word, (node, place));
 }
@@ -104,7 +104,7 @@ fn losing(lost: [bool; 3]) -> Exchange {
 
 // That these are the words of a block of a zero key, 0 or 1.
 fn expect_block(rt: &impl Abort, words: &[u32; ROUND_WORDS as usize], block: usize) {
-    assert!(rt; block < 2);
+    check!(rt; block < 2);
     for place in 0..ROUND_WORDS as usize {
         let wanted = u32::from_le_bytes(BLOCKS[ROUND_WORDS as usize * block + place]);
         expect_at(rt, words[place], wanted, place);
@@ -133,7 +133,7 @@ fn blocks_of_a_zero_key(rt: HostRuntime) {
 #[test]
 fn words_kept_by_a_run(rt: HostRuntime) {
     let scenario = scenario_of(&rt, &[RANDOM, "nodes = 2\n", PLAIN]);
-    assert!(rt; scenario.nodes() == 2);
+    check!(&rt; scenario.nodes() == 2);
     let mut words = RunWords::new(rt.alloc(), &scenario).expect(&rt, "memory");
     words.next_round();
     expect_block(&rt, words.of_node(0), 0);
@@ -158,7 +158,7 @@ fn words_of_ten_nodes(rt: HostRuntime) {
     for (place, word) in WORDS_OF_THE_FIRST {
         expect_word(&rt, &scenario, 0, *place, *word);
     }
-    assert!(rt; scenario.nodes() == 10);
+    check!(&rt; scenario.nodes() == 10);
     expect(&rt, (peer(&scenario, 0, 1), peer(&scenario, 0, 2)), (4, 6));
     let list = listed(&rt, &scenario, 1);
     expect_counts(&rt, &list, (10, 0));
@@ -192,7 +192,7 @@ fn first_random_write(rt: HostRuntime) {
     let rest = "nodes = 2\nseed = 0\nkeys = 10\nloss_ppm = 0\nwrites = 1\n";
     let scenario = scenario_of(&rt, &[RANDOM, rest]);
     expect_word(&rt, &scenario, 0, 8, 2_086_224_346);
-    assert!(rt; scenario.nodes() == 2);
+    check!(&rt; scenario.nodes() == 2);
     let writes = writes_of(&scenario, 0, 1, 0);
     let wanted = OwnWrite {
         key: 6,

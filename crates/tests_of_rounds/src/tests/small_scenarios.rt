@@ -1,6 +1,6 @@
 //! Scenarios of four rounds, and their lists.
 
-use crate::tests::comparing::expect;
+use crate::tests::comparing::{check, expect};
 use bench_types::limits::MOST_ROUNDS;
 use round_plan::{RoundList, round_list};
 use scenario::{Scenario, read};
@@ -35,7 +35,7 @@ pub(crate) fn listed(
     scenario: &Scenario,
     round: u32,
 ) -> RoundList {
-    assert!(rt; round >= 1 && round <= MOST_ROUNDS);
+    check!(rt; round >= 1 && round <= MOST_ROUNDS);
     round_list(rt, rt.alloc(), scenario, round).expect(rt, "memory")
 }
 

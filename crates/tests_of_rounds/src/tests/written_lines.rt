@@ -1,6 +1,6 @@
 //! Lines that are written to memory.
 
-use crate::tests::comparing::{expect, expect_at};
+use crate::tests::comparing::{check, expect, expect_at};
 use crate::tests::exchange_lists::{PAIR, list_of};
 use bench_types::{Fate, Mode, Push, Record, Row};
 use fixtures::row;
@@ -54,7 +54,7 @@ fn expect_report(
     row: &Row,
     text: &[u8],
 ) {
-    assert!(rt; format == 1 || format == 2);
+    check!(rt; format == 1 || format == 2);
     let mut report = Push::new(Vec::new(rt.alloc()));
     if with_header {
         expect(rt, report_header(rt.alloc(), &mut report, format), Ok(()));
@@ -67,7 +67,7 @@ fn expect_report(
 // Compares the rows of two nodes that each begin an exchange in a round with this text.
 fn expect_trace(rt: &(impl Abort + AllocGlobal), round: u32, records: &[Record; 2], text: &[u8]) {
     let list = list_of(rt, 2, PAIR);
-    assert!(rt; list.len() == 2);
+    check!(rt; list.len() == 2);
     let mut trace = Push::new(Vec::new(rt.alloc()));
     let answer = write_trace_rows(rt.alloc(), &mut trace, round, &list, records);
     expect(rt, answer, Ok(()));
@@ -132,7 +132,7 @@ fn lost_messages_of_one_exchange(rt: HostRuntime) {
 
 // Compares the comparison of two nodes with this text.
 fn expect_comparison(rt: &(impl Abort + AllocGlobal), format: u32, text: &[u8]) {
-    assert!(rt; format == 1 || format == 2);
+    check!(rt; format == 1 || format == 2);
     let mut comparison = Push::new(Vec::new(rt.alloc()));
     let answer = compare_header(rt.alloc(), &mut comparison, format);
     expect(rt, answer, Ok(()));

@@ -1,10 +1,11 @@
 //! Simulations by tables with entries and by tables that keep versions alone come to the same, round by round: lists,
 //! records, figures, and each table entry by entry.
 
+ghost use Rattle.std.specs.Prelude.{◌≤◌};
 ghost use Rattle.simulation.specs.calls.Simulation.{MayWriteAll};
 ghost use Rattle.runs.specs.inner.Writes.{AreWrittenIn, HasWritesBelow};
 
-use crate::tests::comparing::expect;
+use crate::tests::comparing::{check, expect};
 use crate::tests::several_workers::expect_same_round;
 use crate::tests::steps::{begin, step};
 use bench::{FreeGate, Sim};
@@ -21,7 +22,7 @@ use std::marker::Brand;
 use std::process::Abort;
 use std::sync::Wait;
 use std::thread::Threads;
-use version_tables::{Histories, Number, Short, VersionTable, Written};
+use version_tables::{Histories, Number, SharedNumber, Short, VersionTable, Written};
 
 // What can be read of a table that keeps versions alone.
 trait Versions: MemoryTable + Send + Sync {
@@ -191,6 +192,19 @@ enum Bits {
     ThirtyTwo,
 }
 
+// By tables with numbers of a type.
+fn expect_same_versions<N: SharedNumber + Send + Sync, L: Written + Send + Sync>(
+    rt: &(impl Threads + Wait + Abort + AllocGlobal + Sync),
+    scenario: Scenario,
+    twin: Scenario,
+) -> Result<(), Fault>
+    requires written { AreWrittenIn L.lists scenario }
+    requires below { HasWritesBelow 255 scenario }
+    requires most { 255 ≤ N.most }
+{
+    expect_same_rounds::<VersionTable<N, L>, Histories<N, L>>(rt, scenario, twin)
+}
+
 // By tables with numbers of so many bits.
 fn expect_same_numbers<L: Written + Send + Sync>(
     rt: &(impl Threads + Wait + Abort + AllocGlobal + Sync),
@@ -202,15 +216,9 @@ fn expect_same_numbers<L: Written + Send + Sync>(
     requires below { HasWritesBelow 255 scenario }
 {
     match bits {
-        Bits::Eight => expect_same_rounds::<VersionTable<u8, L>, Histories<u8, L>>(
-            rt, scenario, twin,
-        ),
-        Bits::Sixteen => expect_same_rounds::<VersionTable<Short, L>, Histories<Short, L>>(
-            rt, scenario, twin,
-        ),
-        Bits::ThirtyTwo => expect_same_rounds::<VersionTable<u32, L>, Histories<u32, L>>(
-            rt, scenario, twin,
-        ),
+        Bits::Eight => expect_same_versions::<u8, L>(rt, scenario, twin),
+        Bits::Sixteen => expect_same_versions::<Short, L>(rt, scenario, twin),
+        Bits::ThirtyTwo => expect_same_versions::<u32, L>(rt, scenario, twin),
     }
 }
 
@@ -222,7 +230,7 @@ fn expect_same(
 ) -> Result<(), Fault> {
     let scenario = scenario_of(rt.alloc(), text, mode)?;
     let twin = scenario_of(rt.alloc(), text, mode)?;
-    assert!(rt; MOST_WRITES * scenario.rounds() < u8::MAX as u32);
+    check!(rt; MOST_WRITES * scenario.rounds() < u8::MAX as u32);
     expect_same_numbers::<Brand>(rt, scenario, twin, bits)
 }
 

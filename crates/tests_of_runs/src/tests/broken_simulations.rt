@@ -129,9 +129,9 @@ fn begin(alloc: Global) -> Result<Sim, Fault> {
 }
 
 // A step behind which one round is done. Where the simulation is broken then, no table is left.
-fn expect_answer(
+fn expect_answer<T: MemoryTable + Send + Sync, H: RoundHistories<T> + Send>(
     rt: &(impl Threads + Wait + Abort + Sync),
-    sim: &mut Sim,
+    sim: &mut SimOf<T, H>,
     team: Team,
     answer: Option<Fault>,
     is_broken: bool,
@@ -146,7 +146,11 @@ fn expect_answer(
     );
 }
 
-fn expect_answers(rt: &(impl Threads + Wait + Abort + Sync), sim: &mut Sim, team: Team) {
+fn expect_answers<T: MemoryTable + Send + Sync, H: RoundHistories<T> + Send>(
+    rt: &(impl Threads + Wait + Abort + Sync),
+    sim: &mut SimOf<T, H>,
+    team: Team,
+) {
     expect_answer(rt, sim, team, None, false);
     expect_answer(rt, sim, team, Some(Fault::OutOfMemory), true);
     for _ in 0..2 {

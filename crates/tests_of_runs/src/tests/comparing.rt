@@ -1,4 +1,6 @@
-//! How the tests compare. An assertion costs seconds to prove, so it stands in one function.
+//! How the tests compare. An assertion costs seconds to prove, so they stand in few functions.
+
+ghost use Rattle.std.specs.Prelude.{IsTrue};
 
 use std::fmt::Debug;
 use std::process::Abort;
@@ -7,3 +9,19 @@ use std::process::Abort;
 pub(crate) fn expect<T: PartialEq + Debug + Drop>(rt: &impl Abort, found: T, wanted: T) {
     assert_eq!(rt; found, wanted);
 }
+
+/// What `check!` calls, with the text of what is to hold.
+pub(crate) fn check_text(rt: &impl Abort, holds: bool, text: &str)
+    ensures { IsTrue holds }
+{
+    assert!(rt; holds, "{text}");
+}
+
+// Goes on where this holds, and else says what doesn't.
+macro_rules! check {
+    ($rt:expr; $holds:expr) => {
+        crate::tests::comparing::check_text($rt, $holds, stringify!($holds))
+    };
+}
+
+pub(crate) use check;

@@ -1,7 +1,7 @@
 //! Ends that go byte by byte and fail at each place of a run of two rounds, and flushes of what else the program
 //! prints. How the program meets reads and writes that fail is tried by `scripts/try_program`.
 
-use crate::tests::comparing::expect;
+use crate::tests::comparing::{check, expect};
 use bench::{compare, run};
 use bench_types::{Fault, Field, Pull, Push, write_text};
 use fixtures::{
@@ -145,7 +145,7 @@ fn expect_front(rt: &impl Abort, alloc: Global, ran: &Ran, parts: usize) -> Resu
 // A run that answers this fault of its input, and writes nothing.
 fn expect_nothing(rt: &impl Abort, ran: Ran, fault: Fault) {
     expect(rt, ran.answer, Err(fault));
-    assert!(rt; ran.report.is_empty() && ran.trace.is_empty());
+    check!(rt; ran.report.is_empty() && ran.trace.is_empty());
 }
 
 // Runs of no text, of one that can't be read to its end, and one whose first write fails.

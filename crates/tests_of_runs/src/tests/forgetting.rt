@@ -1,6 +1,6 @@
 //! Simulations of two nodes of which one forgets, round by round.
 
-use crate::tests::comparing::expect;
+use crate::tests::comparing::{check, expect};
 use crate::tests::steps::{sim_of, step};
 use bench::Sim;
 use bench_types::{Fault, Figures};
@@ -20,7 +20,7 @@ fn forgetting(alloc: Global, lines: &[(&str, &str)], restart: &str) -> Result<Si
 // Compares how often node 1 has forgotten, and how many entries it holds.
 fn expect_node(rt: &impl Abort, sim: &Sim, wanted: (u32, u32)) {
     let tables = sim.tables();
-    assert!(rt; tables.len() == 2);
+    check!(rt; tables.len() == 2);
     expect(rt, (tables[1].generation(), tables[1].count()), wanted);
 }
 

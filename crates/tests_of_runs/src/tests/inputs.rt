@@ -1,6 +1,6 @@
 //! Inputs whose reader fails.
 
-use crate::tests::comparing::expect;
+use crate::tests::comparing::{check, expect};
 use bench::read_all;
 use bench_types::{Fault, Pull};
 use fixtures::Halting;
@@ -31,7 +31,7 @@ fn readers_that_fail(rt: HostRuntime) -> Result<(), Fault> {
     }
     for calls in 4..6 {
         let text = read_all(rt.alloc(), &mut source(calls))?;
-        assert!(rt; text.as_slice() == TEN);
+        check!(&rt; text.as_slice() == TEN);
     }
     Ok(())
 }

@@ -1,6 +1,6 @@
 //! Simulations, step by step.
 
-use crate::tests::comparing::expect;
+use crate::tests::comparing::{check, expect};
 use bench::{FreeGate, Round, Sim};
 use bench_types::{Fault, Mark};
 use fixtures::{NO_FIGURES, RING_OF_FOUR, TWO_NODES, between, row, sent};
@@ -68,7 +68,7 @@ fn two_nodes(rt: HostRuntime) -> Result<(), Fault> {
 fn expect_finished(rt: &(impl Threads + Wait + Abort + Sync), sim: &mut Sim) {
     expect(rt, step(rt, sim).err(), Some(Fault::Finished));
     expect(rt, sim.rounds_done(), 1);
-    assert!(rt; !sim.is_broken());
+    check!(rt; !sim.is_broken());
 }
 
 #[test]

@@ -1,6 +1,6 @@
 //! What an accepted scenario says.
 
-use crate::tests::comparing::expect;
+use crate::tests::comparing::{check, expect};
 use bench::check_input;
 use bench_types::{Budget, Fault, Mode, Pull};
 use fixtures::{changed, changed_in_bytes};
@@ -33,7 +33,7 @@ fn expect_numbers(rt: &impl Abort, scenario: &Scenario) {
     let rules = [scenario.loss_ppm(), scenario.writes()];
     expect(rt, rules, [999_999, 8]);
     let budget = scenario.budget();
-    assert!(rt; scenario.seed() == 42 && budget == Budget::Entries(65_535));
+    check!(rt; scenario.seed() == 42 && budget == Budget::Entries(65_535));
 }
 
 #[test]
@@ -44,9 +44,9 @@ fn values_of_the_fields(rt: HostRuntime) -> Result<(), Fault> {
     let words = (scenario.peers(), scenario.rotation(), scenario.choice());
     let random = (Peers::Random, Rotation::Random, Choice::Random);
     expect(&rt, words, random);
-    assert!(rt; scenario.partitions().is_empty());
-    assert!(rt; scenario.restarts().is_empty());
-    assert!(rt; scenario.loads().is_empty());
+    check!(&rt; scenario.partitions().is_empty());
+    check!(&rt; scenario.restarts().is_empty());
+    check!(&rt; scenario.loads().is_empty());
     Ok(())
 }
 
@@ -61,7 +61,7 @@ fn byte_budget_limits(rt: HostRuntime) -> Result<(), Fault> {
         let changes = [("format = 1", "format = 2"), ("budget = 1", line)];
         let text = changed(rt.alloc(), &changes, "")?;
         let scenario = read(rt.alloc(), text.as_bytes())?;
-        assert!(rt; scenario.format() == 2);
+        check!(&rt; scenario.format() == 2);
         expect(&rt, scenario.budget(), Budget::Bytes(bytes));
     }
     Ok(())
@@ -124,7 +124,7 @@ const LOADS: [Load; 1] = [Load {
 }];
 
 fn expect_partitions(rt: &impl Abort, found: &[Partition]) {
-    assert!(rt; found.len() == 2);
+    check!(rt; found.len() == 2);
     expect_partition(rt, &found[0], 1, 3, &[0, 2, 4]);
     expect_partition(rt, &found[1], 5, 5, &[]);
 }

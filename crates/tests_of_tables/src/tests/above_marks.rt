@@ -1,5 +1,6 @@
 //! What a table holds of an owner above a mark.
 
+use crate::tests::comparing::check;
 use crate::tests::deltas::{NEW, OLD, sender};
 use crate::tests::fixtures::{expect_entries, item, new_table, take};
 use bench_types::{Item, Mark};
@@ -8,7 +9,7 @@ use std::process::Abort;
 
 // Compares what is held of an owner above this version of generation 0.
 fn expect_above(rt: &impl Abort, table: &NodeTable, owner: u32, version: u32, wanted: &[Item]) {
-    assert!(rt; owner < table.nodes());
+    check!(rt; owner < table.nodes());
     let mark = Mark {
         generation: 0,
         version,

@@ -1,4 +1,6 @@
-//! How the tests compare. An assertion costs seconds to prove, so they stand in two functions.
+//! How the tests compare. An assertion costs seconds to prove, so they stand in few functions.
+
+ghost use Rattle.std.specs.Prelude.{IsTrue};
 
 use std::fmt::Debug;
 use std::process::Abort;
@@ -17,3 +19,19 @@ pub(crate) fn expect_at<T: PartialEq + Debug + Drop>(
 ) {
     assert_eq!(rt; found, wanted, "at {case:?}");
 }
+
+/// What `check!` calls, with the text of what is to hold.
+pub(crate) fn check_text(rt: &impl Abort, holds: bool, text: &str)
+    ensures { IsTrue holds }
+{
+    assert!(rt; holds, "{text}");
+}
+
+// Goes on where this holds, and else says what doesn't.
+macro_rules! check {
+    ($rt:expr; $holds:expr) => {
+        crate::tests::comparing::check_text($rt, $holds, stringify!($holds))
+    };
+}
+
+pub(crate) use check;

@@ -1,7 +1,7 @@
 //! Deltas by hand: what is sent of one table in each mode, and of many tables against a program that
 //! places each candidate by counting those that come before it.
 
-use crate::tests::comparing::expect_at;
+use crate::tests::comparing::{check, expect_at};
 use crate::tests::fixtures::{expect_mark, item, lawful, new_table, next, take};
 use crate::tests::plain_tables::{
     BUDGETS, NODES, Turn, count_before, is_sent, lacked, list_of, small_table,
@@ -42,8 +42,8 @@ pub(crate) fn answer(
     to: &NodeTable,
     turn: Turn,
 ) -> Delta {
-    assert!(rt; from.nodes() == to.nodes() && from.keys() == to.keys());
-    assert!(rt; to.node() < from.nodes() && turn.rotation < from.nodes());
+    check!(rt; from.nodes() == to.nodes() && from.keys() == to.keys());
+    check!(rt; to.node() < from.nodes() && turn.rotation < from.nodes());
     let (mode, rotation, budget) = (turn.mode, turn.rotation, lawful(rt, turn.budget));
     let digest = Digest::of(alloc, to, mode).expect(rt, "memory");
     delta(alloc, from, &digest, to.node(), mode, rotation, budget).expect(rt, "memory")
@@ -78,7 +78,7 @@ fn one_delta_in_four_orders(rt: HostRuntime) {
 fn expect_scuttle_digest(rt: &impl Abort, alloc: Global) {
     let from = sender(rt, alloc);
     let digest = Digest::of(alloc, &from, Mode::ScuttleDepth).expect(rt, "memory");
-    assert!(rt; from.nodes() == 4);
+    check!(rt; from.nodes() == 4);
     expect_at(rt, digest.size(), 2, "size");
     expect_mark(rt, "greatest of 0", digest.greatest(0), (0, 0));
     expect_mark(rt, "greatest of 1", digest.greatest(1), (0, 5));
@@ -87,7 +87,7 @@ fn expect_scuttle_digest(rt: &impl Abort, alloc: Global) {
 fn expect_precise_digest(rt: &impl Abort, alloc: Global) {
     let from = sender(rt, alloc);
     let digest = Digest::of(alloc, &from, Mode::PreciseOldest).expect(rt, "memory");
-    assert!(rt; from.nodes() == 4 && from.keys() == 2);
+    check!(rt; from.nodes() == 4 && from.keys() == 2);
     expect_at(rt, digest.size(), 3, "size");
     expect_mark(rt, "mark of 1 0", digest.version(1, 0), (0, 3));
     expect_mark(rt, "mark of 2 1", digest.version(2, 1), (0, 0));
@@ -182,7 +182,7 @@ fn compare_by_counting(rt: &impl Abort, delta: &Delta, all: &[Item], turn: Turn)
             cut = cut.saturating_add(1);
         }
     }
-    assert!(rt; delta.items().len() == all.len().saturating_sub(cut as usize));
+    check!(rt; delta.items().len() == all.len().saturating_sub(cut as usize));
     expect_at(rt, delta.cut(), cut, "cut");
 }
 

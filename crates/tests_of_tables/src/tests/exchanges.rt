@@ -1,6 +1,6 @@
 //! Exchanges of two tables, with records and tables worked out from the rules.
 
-use crate::tests::comparing::expect_at;
+use crate::tests::comparing::{check, expect_at};
 use crate::tests::deltas::unturned;
 use crate::tests::fixtures::{expect_held, item, lawful, new_table, take, write};
 use crate::tests::plain_tables::Turn;
@@ -34,9 +34,9 @@ fn meet(
     second: &mut NodeTable,
     plan: Plan,
 ) -> Result<Record, Fault> {
-    assert!(rt; first.nodes() == second.nodes() && first.keys() == second.keys());
+    check!(rt; first.nodes() == second.nodes() && first.keys() == second.keys());
     let Plan { fate, turn } = plan;
-    assert!(rt; turn.rotation < first.nodes());
+    check!(rt; turn.rotation < first.nodes());
     let planned = Exchange {
         initiator: first.node(),
         responder: second.node(),
@@ -92,7 +92,7 @@ const B2: Item = item!(1, 1, 2, 2, 1);
 
 // The table of a node of two that wrote its only key.
 fn with_one_key(rt: &impl Abort, alloc: Global, own: Item) -> NodeTable {
-    assert!(rt; own.owner < 2);
+    check!(rt; own.owner < 2);
     let mut table = new_table(rt, alloc, own.owner, 2, 1);
     write(rt, &mut table, own.entry);
     table
@@ -100,7 +100,7 @@ fn with_one_key(rt: &impl Abort, alloc: Global, own: Item) -> NodeTable {
 
 // The table of a node of two that wrote both of its keys.
 fn with_two_keys(rt: &impl Abort, alloc: Global, first: Item, second: Item) -> NodeTable {
-    assert!(rt; first.owner < 2);
+    check!(rt; first.owner < 2);
     let mut table = new_table(rt, alloc, first.owner, 2, 2);
     write(rt, &mut table, first.entry);
     write(rt, &mut table, second.entry);
@@ -189,7 +189,7 @@ fn expect_all_or_nothing(rt: &impl Abort, alloc: Global, mode: Mode) {
     match meet(rt, alloc, &mut first, &mut second, plan) {
         Ok(sent) => expect_record(rt, sent, Fate::Ok, [1, 1, 1, 1, 0, 0]),
         Err(fault) => {
-            assert!(rt; fault == Fault::OutOfMemory);
+            check!(rt; fault == Fault::OutOfMemory);
             expect_held(rt, "first", &first, &[A1]);
             expect_held(rt, "second", &second, &[B1]);
         }

@@ -5,7 +5,7 @@ ghost use Rattle.bench_types.specs.calls.Budget.{IsLawfulBudget};
 ghost use Rattle.model.specs.Table.{empty_table};
 ghost use Rattle.model.specs.calls.Table.{IsItemInPlace};
 
-use crate::tests::comparing::expect_at;
+use crate::tests::comparing::{check, expect_at};
 use bench_types::{Budget, Entry, Fault, Item, Mark};
 use node_table::NodeTable;
 use std::alloc::Global;
@@ -64,8 +64,8 @@ pub(crate) fn lawful(rt: &impl Abort, budget: Budget) -> Budget
     ensures lawful { IsLawfulBudget result }
 {
     match budget {
-        Budget::Entries(entries) => assert!(rt; entries >= 1),
-        Budget::Bytes(bytes) => assert!(rt; bytes >= 1023),
+        Budget::Entries(entries) => check!(rt; entries >= 1),
+        Budget::Bytes(bytes) => check!(rt; bytes >= 1023),
     }
     budget
 }
@@ -74,7 +74,7 @@ pub(crate) fn lawful(rt: &impl Abort, budget: Budget) -> Budget
 pub(crate) fn take(rt: &impl Abort, table: &mut NodeTable, items: &[Item]) {
     table.reserve_for(items).expect(rt, "memory");
     let (node, nodes, keys) = (table.node(), table.nodes(), table.keys());
-    assert!(rt; may_take(node, nodes, keys, items));
+    check!(rt; may_take(node, nodes, keys, items));
     table.apply(items);
 }
 
@@ -86,8 +86,8 @@ pub(crate) fn try_write(
     value: u32,
     born: u32,
 ) -> Result<u32, Fault> {
-    assert!(rt; key < table.keys());
-    assert!(rt; table.greatest(table.node()).version < u32::MAX);
+    check!(rt; key < table.keys());
+    check!(rt; table.greatest(table.node()).version < u32::MAX);
     table.write_own(key, value, born)
 }
 
@@ -104,7 +104,7 @@ pub(crate) fn write(rt: &impl Abort, table: &mut NodeTable, entry: Entry) {
 /// The node forgets so often.
 pub(crate) fn forget(rt: &impl Abort, table: &mut NodeTable, times: u32) {
     for _ in 0..times {
-        assert!(rt; table.generation() < u32::MAX);
+        check!(rt; table.generation() < u32::MAX);
         table.forget_all();
     }
 }
@@ -155,8 +155,8 @@ pub(crate) fn expect_held(rt: &impl Abort, name: &str, table: &NodeTable, wanted
             }
         }
     }
-    assert!(rt; count == wanted.len());
-    assert!(rt; table.count() as usize == count);
+    check!(rt; count == wanted.len());
+    check!(rt; table.count() as usize == count);
 }
 
 /// Compares two tables with the same nodes and keys.

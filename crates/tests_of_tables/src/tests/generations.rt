@@ -1,6 +1,6 @@
 //! Nodes that forgot: what their tables hold, and which of two generations is sent and kept.
 
-use crate::tests::comparing::expect_at;
+use crate::tests::comparing::{check, expect_at};
 use crate::tests::deltas::answer;
 use crate::tests::fixtures::{
     expect_entries, expect_held, expect_mark, forget, item, new_table, take, write,
@@ -18,7 +18,7 @@ const NEWER: Item = item!(1, 0, generation 1, 1, 0, 4);
 
 // The table of a node of four with two keys that holds an entry.
 fn holder(rt: &impl Abort, alloc: Global, node: u32, held: Item) -> NodeTable {
-    assert!(rt; node < 4);
+    check!(rt; node < 4);
     let mut table = new_table(rt, alloc, node, 4, 2);
     take(rt, &mut table, &[held]);
     table
@@ -64,14 +64,14 @@ const AGAIN: Item = item!(0, 1, generation 1, 1, 12, 2);
 
 // Compares what is left where a node has forgotten so often: nothing, but for the room.
 fn expect_forgotten(rt: &impl Abort, table: &NodeTable, times: u32) {
-    assert!(rt; table.nodes() == 4);
+    check!(rt; table.nodes() == 4);
     expect_held(rt, "forgotten", table, &[]);
     expect_at(rt, table.generation(), times, "generation");
     for owner in 0..4 {
         expect_mark(rt, "greatest", table.greatest(owner), (0, 0));
-        assert!(rt; table.entries_of(owner).is_empty());
+        check!(rt; table.entries_of(owner).is_empty());
     }
-    assert!(rt; table.may_apply(&OTHERS));
+    check!(rt; table.may_apply(&OTHERS));
 }
 
 // The next write has version 1 of the new generation, and a restart that keeps it keeps the generation.
@@ -117,12 +117,12 @@ const ABOVE: [((u32, u32), &[Item]); 6] = [
 ];
 
 fn expect_row(rt: &impl Abort, table: &NodeTable, row: &[Item]) {
-    assert!(rt; table.nodes() == 4);
+    check!(rt; table.nodes() == 4);
     expect_entries(rt, "row", table.entries_of(1), row);
 }
 
 fn expect_above(rt: &impl Abort, table: &NodeTable) {
-    assert!(rt; table.nodes() == 4);
+    check!(rt; table.nodes() == 4);
     for ((generation, version), entries) in ABOVE {
         let mark = Mark {
             generation,
@@ -168,18 +168,18 @@ fn digests_of_generations(rt: HostRuntime) {
 
 fn expect_scuttle(rt: &impl Abort, alloc: Global, table: &NodeTable) {
     let digest = Digest::of(alloc, table, Mode::ScuttleBreadth).expect(rt, "memory");
-    assert!(rt; table.nodes() == 4);
+    check!(rt; table.nodes() == 4);
     expect_at(rt, digest.size(), 3, "size");
     for owner in 0..4 {
         let mark = digest.greatest(owner);
         expect_mark(rt, "greatest", mark, GREATEST[owner as usize]);
-        assert!(rt; digest.generation(owner) == mark.generation);
+        check!(rt; digest.generation(owner) == mark.generation);
     }
 }
 
 fn expect_precise(rt: &impl Abort, alloc: Global, table: &NodeTable) {
     let digest = Digest::of(alloc, table, Mode::PreciseNewest).expect(rt, "memory");
-    assert!(rt; table.nodes() == 4 && table.keys() == 2);
+    check!(rt; table.nodes() == 4 && table.keys() == 2);
     expect_at(rt, digest.size(), 3, "size");
     for owner in 0..4 {
         let (generation, _version) = GREATEST[owner as usize];

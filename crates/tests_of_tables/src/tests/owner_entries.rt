@@ -1,6 +1,6 @@
 //! An owner that wrote in two of its three generations: which write has which number.
 
-use crate::tests::comparing::expect_at;
+use crate::tests::comparing::{check, expect_at};
 use staleness::OwnerList;
 use std::alloc::Global;
 use std::process::Abort;
@@ -23,13 +23,13 @@ const NUMBERED: [(u32, Option<[u32; 4]>); 7] = [
 
 fn write_all(rt: &impl Abort, list: &mut OwnerList, writes: &[[u32; 3]]) {
     for [key, value, born] in writes {
-        assert!(rt; list.len() < 1000);
+        check!(rt; list.len() < 1000);
         list.write(*key, *value, *born).expect(rt, "memory");
     }
 }
 
 fn begin(rt: &impl Abort, list: &mut OwnerList) {
-    assert!(rt; list.generation() < 1000);
+    check!(rt; list.generation() < 1000);
     list.begin_generation();
 }
 

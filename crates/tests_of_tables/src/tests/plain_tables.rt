@@ -1,7 +1,7 @@
 //! A plain model of what a node holds, as a list of items, and of the orders in which candidates are sent,
 //! and small tables to hold the program against it.
 
-use crate::tests::comparing::expect_at;
+use crate::tests::comparing::{check, expect_at};
 use crate::tests::fixtures::{forget, item, new_table, next, take, try_write};
 use bench_types::{Budget, Item, Mark, Mode};
 use node_table::NodeTable;
@@ -134,7 +134,7 @@ pub(crate) fn expect_listed(rt: &impl Abort, table: &NodeTable, held: &[Item]) {
         let found = table.get(item.owner, item.entry.key);
         expect_at(rt, found, Some(item.entry), "entry");
     }
-    assert!(rt; table.count() as usize == held.len());
+    check!(rt; table.count() as usize == held.len());
 }
 
 // How far behind the rotation an owner comes.
@@ -215,7 +215,7 @@ pub(crate) fn small_table(
     node: u32,
     full: u32,
 ) -> NodeTable {
-    assert!(rt; node < NODES);
+    check!(rt; node < NODES);
     let mut table = new_table(rt, alloc, node, NODES, 3);
     forget(rt, &mut table, next(state, 3));
     for key in 0..3 {

@@ -1,6 +1,6 @@
 //! Records that come in another order than they go out.
 
-use crate::tests::comparing::expect;
+use crate::tests::comparing::{check, expect};
 use bench_types::{Fate, Fault, Record};
 use collector::{Collector, Stamped};
 use std::process::Abort;
@@ -51,7 +51,7 @@ fn expect_finished(rt: &impl Abort, collector: Collector, wanted: &[Record]) {
 #[test]
 fn collector_of_two(rt: HostRuntime) {
     let mut collector = Collector::new(rt.alloc(), 2).expect(&rt, "memory");
-    assert!(rt; collector.len() == 2);
+    check!(&rt; collector.len() == 2);
     expect_put(&rt, &mut collector, 1, 1, Ok(()));
     expect_put(&rt, &mut collector, 1, 2, Err(Fault::Double));
     expect_put(&rt, &mut collector, 2, 2, Err(Fault::Stranger));
@@ -64,7 +64,7 @@ fn collector_of_two(rt: HostRuntime) {
 #[test]
 fn empty_list_has_no_records(rt: HostRuntime) {
     let mut collector = Collector::new(rt.alloc(), 0).expect(&rt, "memory");
-    assert!(rt; collector.len() == 0);
+    check!(&rt; collector.len() == 0);
     expect_put(&rt, &mut collector, 0, 1, Err(Fault::Stranger));
     expect_finished(&rt, collector, &[]);
 }

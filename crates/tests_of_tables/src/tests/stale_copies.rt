@@ -6,7 +6,7 @@ ghost use Rattle.model.specs.calls.OwnerListView.{written};
 ghost use Rattle.model.specs.calls.Writes.{AreBornBy};
 ghost use Rattle.tests_of_tables.specs.Missed.{missed, missed_in};
 
-use crate::tests::comparing::expect_at;
+use crate::tests::comparing::{check, expect_at};
 use crate::tests::fixtures::{item, may_take, new_table};
 use bench_types::{Figures, Item};
 use node_table::NodeTable;
@@ -23,9 +23,9 @@ fn write_both(rt: &impl Abort, table: &mut NodeTable, list: &mut OwnerList, key:
     ensures born { (round : ℕ) → born ≤ round
         → AreBornBy round (written list.old) → AreBornBy round (written list.new) }
 {
-    assert!(rt; key < table.keys());
-    assert!(rt; list.len() < 1000);
-    assert!(rt; table.greatest(table.node()).version == list.len());
+    check!(rt; key < table.keys());
+    check!(rt; list.len() < 1000);
+    check!(rt; table.greatest(table.node()).version == list.len());
     let _version = table.write_own(key, 7, born).expect(rt, "memory");
     list.push(key, born).expect(rt, "memory");
 }
@@ -37,8 +37,8 @@ fn forget_both(rt: &impl Abort, table: &mut NodeTable, list: &mut OwnerList)
     ensures keys { table.new.table.keys ≡ table.old.table.keys }
     ensures born { (round : ℕ) → AreBornBy round (written list.new) }
 {
-    assert!(rt; table.generation() < 1000);
-    assert!(rt; list.generation() < 1000);
+    check!(rt; table.generation() < 1000);
+    check!(rt; list.generation() < 1000);
     table.forget_all();
     list.begin_generation();
 }
@@ -69,7 +69,7 @@ fn writer(
         forget_both(rt, &mut table, &mut list);
     }
     for (key, born) in writes {
-        assert!(rt; *born <= round);
+        check!(rt; *born <= round);
         write_both(rt, &mut table, &mut list, *key, *born);
     }
     (table, list)
@@ -93,7 +93,7 @@ fn reader(
 {
     let (mut table, list) = writer(rt, alloc, 1, keys, forgets, &[], round);
     table.reserve_for(held).expect(rt, "memory");
-    assert!(rt; may_take(1, 2, keys, held));
+    check!(rt; may_take(1, 2, keys, held));
     table.apply(held);
     (table, list)
 }
@@ -117,7 +117,7 @@ fn expect_stale(rt: &(impl Abort + Threads + Sync), alloc: Global, keys: u32, ca
     requires keys { keys ≤ 64 }
 {
     let (round, [first, second]) = (case.round, case.forgets);
-    assert!(rt; round < 1000);
+    check!(rt; round < 1000);
     let (owner, written) = writer(rt, alloc, 0, keys, first, case.writes, round);
     let (copy, unwritten) = reader(rt, alloc, keys, second, case.held, round);
     let found = figures(rt, alloc, &[owner, copy], &[written, unwritten], round);
@@ -235,11 +235,11 @@ fn a_list_keeps_its_writes(rt: HostRuntime) {
 }
 
 fn expect_four_writes(rt: &impl Abort, alloc: Global) {
-    assert!(rt; OwnerList::new(alloc).is_empty());
+    check!(rt; OwnerList::new(alloc).is_empty());
     let (_table, mut list) = writer(rt, alloc, 0, 6, 0, &WRITES, 9);
-    assert!(rt; list.len() == 4);
+    check!(rt; list.len() == 4);
     list.forget();
-    assert!(rt; list.is_empty());
+    check!(rt; list.is_empty());
 }
 
 // The first of those writes above a mark, by the definition, where they are of generation 2.

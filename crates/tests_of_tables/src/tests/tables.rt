@@ -1,6 +1,6 @@
 //! Tables by hand: what they hold is worked out from the rules, and for long lists by a plain model.
 
-use crate::tests::comparing::expect_at;
+use crate::tests::comparing::{check, expect_at};
 use crate::tests::fixtures::{
     expect_held, expect_mark, expect_same, item, items, new_table, next, take, try_write, write,
 };
@@ -83,7 +83,7 @@ const ENTERING: [(Item, Row); 7] = [
 
 // Compares the entries of owner 1 above a version with the end of a row.
 fn expect_above(rt: &impl Abort, table: &NodeTable, version: u32, row: Row) {
-    assert!(rt; table.nodes() > 1);
+    check!(rt; table.nodes() > 1);
     let (versions, _keys) = row;
     let front = versions.iter().filter(|held| **held <= version).count();
     let mark = Mark {
@@ -94,7 +94,7 @@ fn expect_above(rt: &impl Abort, table: &NodeTable, version: u32, row: Row) {
     for (index, entry) in above.iter().enumerate() {
         expect_place(rt, table, *entry, front.saturating_add(index), row);
     }
-    assert!(rt; above.len() == versions.len().saturating_sub(front));
+    check!(rt; above.len() == versions.len().saturating_sub(front));
 }
 
 // Compares an entry with what stands at a place of the row, and with what is held of its key.
@@ -112,11 +112,11 @@ fn expect_place(rt: &impl Abort, table: &NodeTable, entry: Entry, at: usize, row
 
 // Compares the row of owner 1, from each version on, and the greatest versions.
 fn expect_row(rt: &impl Abort, table: &NodeTable, row: Row) {
-    assert!(rt; table.nodes() > 1);
+    check!(rt; table.nodes() > 1);
     for version in 0..11 {
         expect_above(rt, table, version, row);
     }
-    assert!(rt; table.entries_of(1).len() == row.0.len());
+    check!(rt; table.entries_of(1).len() == row.0.len());
     let greatest = row.0.last().copied().unwrap_or(0);
     expect_at(
         rt,

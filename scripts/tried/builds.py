@@ -99,6 +99,8 @@ def try_kept(room):
     """A crate is proved again where what its proof reads has changed, and else it is kept."""
     toy = Toy(room / "kept")
     builds("a first build", toy, CRATES)
+    holds("a proof, without the search for contracts that no call can meet", " --jobs\n",
+          (toy.top / "crates/low/out/build.log").read_text())
     lines = [f"{name}: pub fn {name}()\n" for name in ("low", "left", "low", "right", "gossip_bench")]
     holds("the program", (0, f"{''.join(lines)}run \nthe scenario", ""),
           run(room, toy.program, "run", text="the scenario", GLIBC_TUNABLES=""))

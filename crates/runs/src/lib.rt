@@ -18,6 +18,9 @@
 //! - A comparison's text doesn't depend on the scenario's own mode, which the contract of `compare` says (`own_mode` of
 //!   `IsCompared`) beside the text itself. The scenario goes from mode to mode by value: `Sim::into_scenario` hands it
 //!   back, so nothing is copied.
+//! - The wrong body that counts down nodes as fresh (`must-fail`) does so in the rows of rounds in which all nodes are
+//!   down. In any other round it would need the figures of some tables, which only a loop with an invariant could give,
+//!   so it would be refused for want of one.
 #![tactic(auto)]
 
 mod comparing;

@@ -1,4 +1,5 @@
-//! What a simulation asks of what it keeps beside its nodes' tables, whatever their representation is.
+//! What a simulation asks of what it keeps beside its nodes' tables, whatever their representation is, and the empty
+//! tables that it begins with.
 //!
 //! # Choices
 //!
@@ -9,8 +10,10 @@
 //!   made is told (`end_writes`), since histories may note where rounds end.
 #![tactic(auto)]
 
+mod openings;
 mod resources;
 mod round_histories;
 
+pub use openings::{Shares, empty_tables, empty_tables_by};
 pub use resources::{Hands, Resources};
 pub use round_histories::{Counted, RoundHistories, TakesAll};

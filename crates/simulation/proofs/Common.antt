@@ -6,12 +6,11 @@ pub use Rattle.std.proofs.Math.Seq.{take-length}
 pub use Rattle.std.proofs.lemmas.Bool.{both_ways, cases_eq, cases_lt}
 pub use Rattle.std.proofs.lemmas.List.{append-nil, ext_get_or, get_or-append_right, get_or-map, get_or_default, get_or_past, get_or_push, length-map, length-set, length-take-le, map-append, map-set, map_more, take_more}
 pub use Rattle.std.proofs.lemmas.List.Elements.{All-append, All-nil, All-push, All-weaker}
-pub use Rattle.std.proofs.lemmas.List.FromFn.{get_or-map-range_with_len, length-map-range_with_len, map-range_with_len_more}
+pub use Rattle.std.proofs.lemmas.List.FromFn.{get_or-map-range_with_len, length-map-range_with_len}
 pub use Rattle.std.proofs.lemmas.List.Sums.{fold-append}
 pub use Rattle.std.proofs.lemmas.Result.{IfOk-at_ok, IfOk-weaker, on_ok_weaker}
 pub use Rattle.std.specs.List.{range_with_len}
-pub use Rattle.std.specs.Prelude.{Contains, IfSome, IsOkAnd, OnOk, Vec, is_none}
-pub use Rattle.std.specs.Result.{IsErrAnd}
+pub use Rattle.std.specs.Prelude.{Contains, IfSome, OnOk, Vec, is_none}
 pub use Rattle.std.specs.declared.alloc.Global.{Global}
 pub use Rattle.bench_types.specs.calls.Budget.{IsLawfulBudget}
 pub use Rattle.bench_types.specs.declared.exchanges.Budget.TheVariants.{Bytes, Entries}

@@ -15,13 +15,14 @@ ghost use Rattle.simulation.specs.inner.Playing.{HasEnded, IsPlayed, IsUnderWay,
 ghost use Rattle.simulation.specs.inner.Plans.{AreCountsAfter, IsDrawnAfter, IsPlanOf, MayDraw, counted_in};
 ghost use Rattle.simulation.specs.inner.Steps.{HaveEnded, IsRoundOf, LeavesOthers, MayWriteOwn};
 
-use crate::openings::{empty_tables, empty_tables_by, histories_of, shares_of};
 use crate::plans::{Drawn, Plan, next_plan};
 use crate::rounds::Round;
 use bench_types::{Fault, Rules};
 use crew::Crew;
 use model::{MemoryTable, RoundList};
-use round_histories::{Counted, Hands, Resources, RoundHistories};
+use round_histories::{
+    Counted, Hands, Resources, RoundHistories, Shares, empty_tables, empty_tables_by,
+};
 use round_plan::{OwnWrite, RunWords, Writes, forgets_now, restarts_now, writes_by};
 use scenario::Scenario;
 use std::alloc::Global;
@@ -59,7 +60,8 @@ impl<T: MemoryTable + Send + Sync, K: RoundHistories<T>> Cluster<T, K> {
         ensures only { IsOkUnless result OutOfMemory }
     {
         let histories = histories_of(alloc, scenario)?;
-        let tables = empty_tables_by(rt, alloc, &histories, shares_of(scenario, workers));
+        let shares = Shares::of(scenario.nodes(), scenario.keys(), workers);
+        let tables = empty_tables_by(rt, alloc, &histories, shares);
         Cluster::opened(alloc, scenario, tables, histories)
     }
 
@@ -82,6 +84,18 @@ impl<T: MemoryTable + Send + Sync, K: RoundHistories<T>> Cluster<T, K> {
             drawn: Drawn::Words(RunWords::new(alloc, scenario)?),
         })
     }
+}
+
+// The histories of a scenario's owners.
+fn histories_of<T: MemoryTable, K: RoundHistories<T>>(
+    alloc: Global,
+    scenario: &Scenario,
+) -> Result<K, Fault>
+    ensures begun { IfOk result (λ h. AreNewHistories scenario.now.nodes scenario.now.keys (K.kept h)) }
+    ensures proper { AreProper (opening_tables scenario.now) }
+    ensures only { IsOkUnless result OutOfMemory }
+{
+    K::new(alloc, scenario.nodes(), scenario.keys())
 }
 
 /// A cluster, the round of its scenario that comes next, and what is told of its exchanges.

@@ -10,14 +10,10 @@
 //! - A simulation asks once how many processors there are, in the first step, as `new` and `of` have no runtime: to ask
 //!   takes longer than a small round's figures. They bear on the threads of the figures alone, not on those that make
 //!   the tables of `of_by`.
-//! - The wrong body that counts down nodes as fresh (`must-fail`) does so in rounds in which all nodes are down. In any
-//!   other round it would need the figures of some tables, which only a loop with an invariant could give, so it would
-//!   be refused for want of one.
 #![tactic(auto)]
 
 mod clusters;
 mod laws;
-mod openings;
 mod plans;
 mod processors;
 mod rounds;

@@ -1,12 +1,8 @@
 -- The parts of a step, of tables and histories in memory: `table` gives the table of a value, and `kept` what contracts
 -- see of histories. Source: this project.
-use Rattle.std.specs.Prelude.{◌≡◌, ℕ, ◌+◌, ◌-◌, ◌++◌, ◌<◌, ◌≤◌, List, length, map, Result, IfOk, IsOkAnd, IsOkUnless, Vec}
-use Rattle.bench_types.specs.declared.faults.Fault.{Fault}
-use Rattle.bench_types.specs.declared.faults.Fault.TheVariants.{OutOfMemory}
-use Rattle.std.specs.declared.alloc.Global.{Global}
-use Rattle.std.specs.List.{range_with_len}
+use Rattle.std.specs.Prelude.{◌≡◌, ℕ, ◌+◌, ◌-◌, ◌<◌, ◌≤◌, List, length, map}
 use Rattle.limits.specs.declared.TheConstants.{MOST_ROUNDS}
-use Rattle.model.specs.Table.{Table, empty_table, with_own_writes}
+use Rattle.model.specs.Table.{Table, with_own_writes}
 use Rattle.model.specs.calls.OwnerListView.{list_of_owner}
 use Rattle.round_plan.specs.Writes.{count_before, own_writes}
 use Rattle.round_plan.specs.calls.Writes.{AreWritesOf}
@@ -16,23 +12,6 @@ use Rattle.scenario.specs.Settings.{Settings}
 use Rattle.simulation.specs.Rounds.{begun}
 use Rattle.simulation.specs.calls.Standing.{IsOwner, StandAfterRound}
 use Rattle.simulation.specs.inner.Steps.{begun_table, HasWritten, HasRestarted, HaveEnded, IsNodeBefore}
-
--- nodes from one on up to another
-abbrev pub IsStretchOfNodes : HistoriesView → ℕ → ℕ → Type 0
-IsStretchOfNodes h from to = (from ≤ to) × (to ≤ length h.lists)
-
--- the empty tables of such nodes, if there is memory for them
-abbrev pub empty_tables_in : HistoriesView → ℕ → ℕ → List Table
-empty_tables_in h from to = map (λ n. empty_table n (length h.lists) h.keys) (range_with_len from (to - from))
-
-abbrev pub AreMadeEmpty : {T : Type 0} → (T → Table) → HistoriesView → ℕ → ℕ → Result (Vec T Global) Fault → Type 0
-AreMadeEmpty table h from to answer =
-    IfOk answer (λ v. map table v.items ≡ empty_tables_in h from to) × IsOkUnless answer OutOfMemory
-
--- what has come of both
-abbrev pub AreJoined : {T : Type 0} → Result (Vec T Global) Fault → Result (Vec T Global) Fault → Result (Vec T Global) Fault → Type 0
-AreJoined first others answer =
-    IfOk answer (λ v. IsOkAnd first (λ f. IsOkAnd others (λ o. v.items ≡ f.items ++ o.items))) × IsOkUnless answer OutOfMemory
 
 -- what a round begins with: of one table, and of what its writes leave, and of all
 abbrev pub IsBegun : {T : Type 0} → (T → Table) → Settings → ℕ → ℕ → T → T → Type 0

@@ -1,6 +1,6 @@
 use Rattle.simulation.proofs.Common.{IfOk-weaker, ◌∙◌, arith}
 use Rattle.simulation.proofs.Standing.{opening_proper}
-use Rattle.simulation.proofs.openings.histories_of.Goals as goal
+use Rattle.simulation.proofs.clusters.histories_of.Goals as goal
 
 pub returns-clause-begun : goal.returns-clause-begun
 returns-clause-begun g c =

@@ -1,7 +1,7 @@
 use Rattle.std.specs.Prelude.{vec_capacity}
-use Rattle.simulation.proofs.Common.{◌≡◌, ◌-◌, ◌≤◌, map}
-use Rattle.simulation.specs.inner.InMemory.{empty_tables_in}
-use Rattle.simulation.proofs.openings.empty_tables.Given as goal
+use Rattle.std.proofs.Common.{◌≡◌, ◌-◌, ◌≤◌, map}
+use Rattle.round_histories.specs.EmptyTables.{empty_tables_in}
+use Rattle.round_histories.proofs.openings.empty_tables.Given as goal
 
 abbrev pub invariant-loop-node : goal.invariant-loop-node
 invariant-loop-node g l = record {

@@ -1,6 +1,9 @@
-use Rattle.simulation.proofs.Common.{[], ◌∷◌, ◌++◌, ◌-◌, length, length-map, length-map-range_with_len, empty_table, map, ap, sym, ◌∙◌, arith, map-append}
-use Rattle.simulation.proofs.Opening.{one_more}
-use Rattle.simulation.proofs.openings.empty_tables.Goals as goal
+use Rattle.std.proofs.Common.{[], ap, arith, length, map, sym, ◌++◌, ◌-◌, ◌∙◌, ◌∷◌}
+use Rattle.std.proofs.lemmas.List.{length-map, map-append}
+use Rattle.std.proofs.lemmas.List.FromFn.{length-map-range_with_len}
+use Rattle.model.specs.Table.{empty_table}
+use Rattle.round_histories.proofs.EmptyTables.{one_more}
+use Rattle.round_histories.proofs.openings.empty_tables.Goals as goal
 
 pub loop-node-preserved : goal.loop-node-preserved
 loop-node-preserved g c = record {

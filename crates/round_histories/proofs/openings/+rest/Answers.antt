@@ -1,6 +1,6 @@
-use Rattle.simulation.proofs.Common.{◌≡◌, ℕ, ◌+◌, ◌-◌, ◌*◌, ◌<◌, ◌≤◌, arith, rules}
-use Rattle.simulation.proofs.Opening.{made_in_shares}
-use Rattle.simulation.proofs.openings.+rest.Goals as goal
+use Rattle.std.proofs.Common.{◌≡◌, ℕ, ◌+◌, ◌-◌, ◌*◌, ◌<◌, ◌≤◌, arith, rules}
+use Rattle.round_histories.proofs.EmptyTables.{made_in_shares}
+use Rattle.round_histories.proofs.openings.+rest.Goals as goal
 
 pub returns : goal.returns
 returns g t c =

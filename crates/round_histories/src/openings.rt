@@ -1,34 +1,19 @@
-//! What a simulation begins with: histories in which nothing is written, and empty tables.
+//! The empty tables that a simulation begins with.
 
-ghost use Rattle.std.specs.Prelude.{◌≡◌, ◌<◌, ◌≤◌, IfOk, IsOkUnless};
+ghost use Rattle.std.specs.Prelude.{◌≡◌, ◌≤◌, IsOkUnless};
 ghost use Rattle.bench_types.specs.declared.faults.Fault.TheVariants.{OutOfMemory};
-ghost use Rattle.model.specs.Tables.{AreProper};
-ghost use Rattle.simulation.specs.Rounds.{opening_tables};
-ghost use Rattle.round_histories.specs.Histories.{AreNewHistories};
-ghost use Rattle.simulation.specs.inner.InMemory.{AreJoined, AreMadeEmpty, IsStretchOfNodes};
+ghost use Rattle.limits.specs.declared.TheConstants.{MOST_NODES};
+ghost use Rattle.round_histories.specs.EmptyTables.{AreJoined, AreMadeEmpty, IsStretchOfNodes};
 
+use crate::round_histories::RoundHistories;
 use bench_types::Fault;
 use model::MemoryTable;
-use round_histories::RoundHistories;
-use scenario::Scenario;
 use std::alloc::Global;
 use std::ops::Range;
 use std::thread::{Threads, join};
 
-/// The histories of a scenario's owners.
-pub(crate) fn histories_of<T: MemoryTable, K: RoundHistories<T>>(
-    alloc: Global,
-    scenario: &Scenario,
-) -> Result<K, Fault>
-    ensures begun { IfOk result (λ h. AreNewHistories scenario.now.nodes scenario.now.keys (K.kept h)) }
-    ensures proper { AreProper (opening_tables scenario.now) }
-    ensures only { IsOkUnless result OutOfMemory }
-{
-    K::new(alloc, scenario.nodes(), scenario.keys())
-}
-
 /// The empty tables of some nodes.
-pub(crate) fn empty_tables<T: MemoryTable, K: RoundHistories<T>>(
+pub fn empty_tables<T: MemoryTable, K: RoundHistories<T>>(
     alloc: Global,
     histories: &K,
     nodes: Range<u32>,
@@ -46,16 +31,37 @@ pub(crate) fn empty_tables<T: MemoryTable, K: RoundHistories<T>>(
 
 /// Some nodes, and how many of their tables each thread makes.
 #[derive(Drop)]
-pub(crate) struct Shares {
-    pub(crate) nodes: Range<u32>,
-    pub(crate) size: u32,
-    ghost some: { 1 ≤ size },
+pub struct Shares {
+    pub nodes: Range<u32>,
+    pub size: u32,
+    pub ghost some: { 1 ≤ size },
+}
+
+// So many numbers are worth a thread that makes them: most of the time goes to the system, which clears their memory.
+const NUMBERS_OF_A_THREAD: u32 = 2_097_152;
+
+impl Shares {
+    /// All nodes, shared out to so many workers, if all have enough to make, or else to fewer. It bears on time alone.
+    pub fn of(nodes: u32, keys: u32, workers: u32) -> Shares
+        requires some_node { 1 ≤ nodes }
+        requires nodes { nodes ≤ MOST_NODES }
+        requires some_key { 1 ≤ keys }
+        requires workers { 1 ≤ workers }
+        ensures first { result.nodes.start ≡ 0 }
+        ensures last { result.nodes.end ≡ nodes }
+    {
+        let enough = NUMBERS_OF_A_THREAD / nodes / keys;
+        Shares {
+            nodes: 0..nodes,
+            size: (nodes / workers).max(enough) + 1,
+        }
+    }
 }
 
 /// The same tables, in shares. This thread starts all others, and makes a share too; where one can't be started, it
 /// makes more.
 #[cycle(rest)]
-pub(crate) fn empty_tables_by<T: MemoryTable + Send, K: RoundHistories<T>>(
+pub fn empty_tables_by<T: MemoryTable + Send, K: RoundHistories<T>>(
     rt: &(impl Threads + Sync),
     alloc: Global,
     histories: &K,
@@ -104,21 +110,4 @@ fn joined<T: Drop>(
     let mut all = first?;
     all.append(&mut others?)?;
     Ok(all)
-}
-
-// So many numbers are worth a thread that makes them: most of the time goes to the system, which clears their memory.
-const NUMBERS_OF_A_THREAD: u32 = 2_097_152;
-
-/// All nodes, shared out to so many workers, if all have enough to make, or else to fewer. It bears on time alone.
-pub(crate) fn shares_of(scenario: &Scenario, workers: u32) -> Shares
-    requires { 1 ≤ workers }
-    ensures first { result.nodes.start ≡ 0 }
-    ensures last { result.nodes.end ≡ scenario.now.nodes }
-{
-    let nodes = scenario.nodes();
-    let enough = NUMBERS_OF_A_THREAD / nodes / scenario.keys();
-    Shares {
-        nodes: 0..nodes,
-        size: (nodes / workers).max(enough) + 1,
-    }
 }

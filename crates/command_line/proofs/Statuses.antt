@@ -3,8 +3,8 @@
 use Rattle.std.proofs.Common.{◌≡◌, Ok, Err, Result, IfErr, arith}
 use Rattle.bench_types.specs.declared.faults.Fault.{Fault}
 use Rattle.bench_types.specs.declared.sinks.Sink.{Ghosts as Sink}
-use Rattle.command_line.specs.Statuses.{IsTold, told_of}
-use Rattle.command_line.specs.inner.Statuses.{IsOutcomeTold, status_of}
+use Rattle.command_words.specs.Statuses.{IsTold, told_of}
+use Rattle.command_words.specs.calls.Statuses.{IsOutcomeTold, status_of}
 
 -- 1 comes of a fault, and that was told
 pub was_told :

@@ -1,35 +1,16 @@
 -- What comes of words, those behind the program's name. `source` and `sink` have the words of the two ends of the
 -- program, `errors` those of the sink for faults and refusals, `discard` and `file` those of the sinks for a trace.
 -- Source: this project.
-use Rattle.std.specs.Prelude.{◌≡◌, ◌⊎◌, ℕ, List, string_bytes}
+use Rattle.std.specs.Prelude.{◌≡◌, ◌⊎◌, ℕ, List}
 use Rattle.bench_types.specs.declared.faults.Fault.{Fault}
-use Rattle.bench_types.specs.declared.faults.Fault.TheVariants as faults
 use Rattle.bench_types.specs.declared.sinks.Sink.{Ghosts as Sink}
 use Rattle.bench_types.specs.declared.sources.Source.{Ghosts as Source}
-use Rattle.bench_types.specs.Output.{IsWritten, IsBrokenOff}
+use Rattle.command_words.specs.Endings.{IsAnswerFault, IsHelpWritten}
+use Rattle.command_words.specs.Statuses.{IsTold, told_of}
 use Rattle.command_words.specs.Words.{AskFor, HaveNoJob}
 use Rattle.command_words.specs.declared.jobs.Job.{Job}
 use Rattle.command_words.specs.declared.words.NoJob.{NoJob}
-use Rattle.command_words.specs.declared.words.NoJob.TheVariants.{Help, Refused, OutOfMemory}
 use Rattle.command_line.specs.Jobs.{IsPerformed, IsJobFault}
-use Rattle.command_line.specs.Statuses.{IsTold, told_of}
-
-module _ {W : Type 0} (sink : Sink W) (out out' : W) where
-  -- there is no job, but help, which was written
-  abbrev pub IsHelpWritten : NoJob → Type 0
-  IsHelpWritten (Help text) = IsWritten sink out out' (string_bytes text)
-  IsHelpWritten _ = ⊥
-
-  -- there is no job, and the fault is that help was cut, or that memory ran out, and then nothing was written
-  abbrev pub IsAnswerFault : Fault → NoJob → Type 0
-  IsAnswerFault fault (Help text) = (fault ≡ faults.WriteFailed) × IsBrokenOff sink out out' (string_bytes text)
-  IsAnswerFault fault (Refused text) = ⊥
-  IsAnswerFault fault OutOfMemory = (fault ≡ faults.OutOfMemory) × (out' ≡ out)
-
-  -- there is no job, but a refusal, which was told; nothing was written
-  abbrev pub IsRefusalTold : {E : Type 0} → Sink E → E → E → NoJob → Type 0
-  IsRefusalTold errors err err' (Refused text) = (out' ≡ out) × IsTold errors err err' (string_bytes text)
-  IsRefusalTold errors err err' _ = ⊥
 
 module _ {R : Type 0} (source : Source R) (reader reader' : R) (words : List (List ℕ)) where
   -- the words have no job, nothing was read, and this came of the reason

@@ -1,4 +1,2 @@
 pub mod Endings
-pub mod Statuses
 pub mod Jobs
-pub mod inner

@@ -6,7 +6,6 @@
 #![tactic(auto)]
 
 mod jobs;
-mod lines;
 mod processes;
 mod programs;
 mod streams;

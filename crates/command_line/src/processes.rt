@@ -1,7 +1,8 @@
 //! The program as a process.
 
-use crate::programs::{REFUSED, main_with, status_of};
+use crate::programs::main_with;
 use bench_types::{Fault, Pull, Push, Sink, write_text};
+use command_words::{REFUSED, status_of};
 use std::alloc::AllocGlobal;
 use std::env::Env;
 use std::io::{Input, Print};

@@ -1,7 +1,7 @@
 use Rattle.std.proofs.Common.{refl, arith}
 use Rattle.std.proofs.lemmas.Grind.{common_steps}
 use Rattle.bench_types.specs.declared.faults.Fault.TheVariants as faults
-use Rattle.command_line.proofs.programs.answer_words.Goals as goal
+use Rattle.command_words.proofs.answers.answer_words.Goals as goal
 
 pub returns-in-OutOfMemory-clause-fault : goal.returns-in-OutOfMemory-clause-fault
 returns-in-OutOfMemory-clause-fault g c is =

@@ -2,7 +2,7 @@
 use Rattle.std.specs.Prelude.{◌≡◌, ℕ, Result, Ok, Err}
 use Rattle.bench_types.specs.declared.faults.Fault.{Fault}
 use Rattle.bench_types.specs.declared.sinks.Sink.{Ghosts as Sink}
-use Rattle.command_line.specs.Statuses.{told_of, IsTold}
+use Rattle.command_words.specs.Statuses.{told_of, IsTold}
 
 abbrev pub status_of : {T : Type 0} → Result T Fault → ℕ
 status_of (Ok done) = 0

@@ -1,4 +1,8 @@
-//! What ends a program before its end.
+//! What ends the program before its end, and what goes on where memory is refused once: the call is made again.
+//!
+//! The program prints the name of each call once all of its answers were right, and so the same whichever growth is
+//! refused. The name of a call that was refused goes to standard error. Where the second try is refused too the
+//! program gives up, with a status for lack of memory and one for a thread that couldn't be started.
 
 ghost use Rattle.std.specs.Prelude.{IsTrue, OnOk};
 ghost use Rattle.bench_types.specs.calls.Budget.{IsLawfulBudget};
@@ -9,7 +13,7 @@ use std::fmt::Display;
 use std::io;
 use std::process::ExitCode;
 
-// What a program ends with where an answer is wrong, where a call was refused memory or a thread twice, and where
+// What it ends with where an answer is wrong, where a call was refused memory or a thread twice, and where
 // printing failed.
 const WRONG: u8 = 1;
 
@@ -19,9 +23,9 @@ const NOT_PRINTED: u8 = 4;
 
 const NO_THREAD: u8 = 5;
 
-/// Why a program ends before its end.
+/// Why the program ends before its end.
 #[derive(Debug, Drop)]
-pub enum Failure {
+pub(crate) enum Failure {
     /// What came behind the call that was named last isn't as it should be.
     Wrong,
     /// A call answers this fault, and no fault is right or it is the second.
@@ -48,14 +52,14 @@ impl From<io::Error> for Failure {
 }
 
 /// Goes on where it holds.
-pub fn check(holds: bool) -> Result<(), Failure>
+pub(crate) fn check(holds: bool) -> Result<(), Failure>
     ensures { OnOk result (IsTrue holds) }
 {
     if holds { Ok(()) } else { Err(Failure::Wrong) }
 }
 
 /// Goes on where a budget has room for any one entry.
-pub fn check_budget(budget: Budget) -> Result<(), Failure>
+pub(crate) fn check_budget(budget: Budget) -> Result<(), Failure>
     ensures { OnOk result (IsLawfulBudget budget) }
 {
     match budget {
@@ -65,13 +69,13 @@ pub fn check_budget(budget: Budget) -> Result<(), Failure>
 }
 
 /// All answers of a call were right.
-pub fn pass(rt: &impl Print, name: impl Display + Drop) -> Result<(), Failure> {
+pub(crate) fn pass(rt: &impl Print, name: impl Display + Drop) -> Result<(), Failure> {
     println!(rt; "{name}")?;
     Ok(())
 }
 
 /// A call was refused, and what it wanted has to be memory.
-pub fn refused(
+pub(crate) fn refused(
     rt: &impl Eprint,
     name: impl Display + Drop,
     fault: impl Into<Failure> + Drop,
@@ -80,7 +84,7 @@ pub fn refused(
 }
 
 /// The same, and what stands then is as it should be.
-pub fn refused_once(
+pub(crate) fn refused_once(
     rt: &impl Eprint,
     name: &str,
     fault: impl Into<Failure> + Drop,
@@ -93,7 +97,7 @@ pub fn refused_once(
 }
 
 /// As `refused`, of a call with so many workers: of several, one may want a thread.
-pub fn refused_with(
+pub(crate) fn refused_with(
     rt: &impl Eprint,
     name: impl Display + Drop,
     workers: u32,
@@ -108,8 +112,8 @@ pub fn refused_with(
     Ok(())
 }
 
-/// The status of a program. What was wrong is printed.
-pub fn end(rt: &impl Print, done: Result<(), Failure>) -> ExitCode {
+/// The status of the program. What was wrong is printed.
+pub(crate) fn end(rt: &impl Print, done: Result<(), Failure>) -> ExitCode {
     let status = match done {
         Ok(()) => return ExitCode::SUCCESS,
         Err(Failure::Wrong) => told(println!(rt; "wrong, after what is named above"), WRONG),
@@ -128,3 +132,22 @@ fn told(printed: io::Result<()>, status: u8) -> u8 {
         Err(_) => NOT_PRINTED,
     }
 }
+
+// What a call answers, at the second try where memory was refused once. Between the tries stands what the last argument
+// says.
+macro_rules! retried {
+    ($rt:expr, $name:expr, $call:expr) => {
+        crate::failures::retried!($rt, $name, $call, true)
+    };
+    ($rt:expr, $name:expr, $call:expr, $stands:expr) => {
+        match $call {
+            Ok(value) => value,
+            Err(fault) => {
+                crate::failures::refused_once($rt, $name, fault, $stands)?;
+                $call?
+            }
+        }
+    };
+}
+
+pub(crate) use retried;

@@ -1,8 +1,8 @@
 //! The lines of the report, the trace and the comparison.
 
+use crate::failures::{Failure, check, pass, refused, retried};
 use bench_types::{Fault, Mode, Push, Record, Row};
 use fixtures::{list_of, row, sent};
-use refusals::{Failure, check, pass, refused, retried};
 use report::{
     compare_header, report_header, trace_header, write_compare_row, write_report_row,
     write_trace_rows,

@@ -2,11 +2,11 @@
 
 ghost use Rattle.std.specs.Prelude.{◌≡◌, IfOk};
 
+use crate::failures::{Failure, check, pass, refused, retried};
 use bench_types::{Budget, Fault, Item, Mode, Record, Rules};
 use fixtures::{Writers, between, holds, item, list_of, sent, tables_of};
 use node_table::NodeTable;
 use planner::{After, Deps, Event, Schedule, play};
-use refusals::{Failure, check, pass, refused, retried};
 use round_plan::RoundList;
 
 // Two pairs of nodes, and then one node of each pair with one of the other.

@@ -4,13 +4,13 @@ ghost use Rattle.std.specs.Prelude.{◌≡◌, IfOk};
 ghost use Rattle.node_table.specs.NodeTableView.{kept_table};
 ghost use Rattle.board.specs.Boards.{IsSeatOf};
 
+use crate::failures::{Failure, check, pass, refused, retried};
 use crate::schedules::{ALL_ENTRIES, FOUR, crossing, deps_of};
 use bench_types::{Fault, Record};
 use collector::{Collector, Stamped};
 use fixtures::{sent, tables_of};
 use node_table::NodeTable;
 use planner::Deps;
-use refusals::{Failure, check, pass, refused, retried};
 
 type Board = board::Board<NodeTable>;
 

@@ -2,11 +2,11 @@
 
 use crate::cases::Rounds;
 use crate::counting::Counter;
+use crate::failures::{Failure, check, pass, refused, refused_with, retried};
 use crate::trials::Trial;
 use bench::Sim;
 use bench_types::Fault;
 use fixtures::Team;
-use refusals::{Failure, check, pass, refused, refused_with, retried};
 use scenario::{Partition, Scenario, read};
 use std::sync::Wait;
 use std::thread::Threads;

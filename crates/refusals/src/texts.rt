@@ -1,11 +1,11 @@
 //! From a text to texts.
 
 use crate::cases::Case;
+use crate::failures::{Failure, check, pass, refused_with, retried};
 use crate::trials::Trial;
 use bench::{check_input, compare, read_all, run};
 use bench_types::{Fault, Pull, Push};
 use fixtures::Team;
-use refusals::{Failure, check, pass, refused_with, retried};
 use std::alloc::Global;
 use std::sync::Wait;
 use std::thread::Threads;

@@ -4,12 +4,12 @@ ghost use Rattle.std.specs.Prelude.{◌≡◌, IfOk};
 ghost use Rattle.bench_types.specs.Mode.{digest_kind};
 ghost use Rattle.reconcile.specs.Digests.{IsDigestOf};
 
+use crate::failures::{Failure, check, check_budget, pass, retried};
 use crate::tables::{new_table, take};
 use bench_types::{Budget, Item, Mode};
 use fixtures::item;
 use node_table::NodeTable;
 use reconcile::{Digest, delta};
-use refusals::{Failure, check, check_budget, pass, retried};
 
 // One owner's versions 3 and 5 and another's version 1, whose entries take 24, 1023 and 24 bytes.
 const OLD: Item = item!(1, 0, 3, 0, 2);

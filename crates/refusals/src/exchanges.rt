@@ -1,11 +1,11 @@
 //! Exchanges of two nodes that have written one of their keys.
 
+use crate::failures::{Failure, check, pass, retried};
 use crate::tables::{OTHER, OWN, written};
 use bench_types::{Budget, Exchange, Fate, Item, Mode, Record, Rules};
 use exchange::exchange;
 use fixtures::{between, holds};
 use node_table::NodeTable;
-use refusals::{Failure, check, pass, retried};
 use std::alloc::Global;
 
 // The fate of an exchange, what is sent until then, and what the two nodes then hold.

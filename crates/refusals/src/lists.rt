@@ -6,13 +6,13 @@ ghost use Rattle.model.specs.calls.Tables.{IsCluster};
 
 use crate::cases::{Case, FirstRound, LoneList};
 use crate::counting::Counter;
+use crate::failures::{Failure, check, check_budget, pass, refused_with, retried};
 use crate::trials::Trial;
 use bench_types::limits::{MOST_KEYS, MOST_NODES};
 use bench_types::{Entry, Fault, Mode, Record, Rules};
 use fixtures::{Team, WRITTEN, Writers, list_of, tables_of};
 use node_table::NodeTable;
 use pool::run_list;
-use refusals::{Failure, check, check_budget, pass, refused_with, retried};
 use round_plan::RoundList;
 use std::sync::Wait;
 use std::thread::Threads;

@@ -3,9 +3,9 @@
 ghost use Rattle.std.specs.Prelude.{◌≡◌, IfOk};
 ghost use Rattle.round_plan.specs.calls.Words.{run_words_of};
 
+use crate::failures::{Failure, check, pass, refused, retried};
 use bench_types::{Budget, Exchange, Fault, Field, Mode, TableName};
 use fixtures::{between, changed, changed_in_bytes};
-use refusals::{Failure, check, pass, refused, retried};
 use round_plan::{RoundList, RunWords, round_list, round_list_by};
 use scenario::{Scenario, read};
 use std::thread::Threads;

@@ -3,10 +3,10 @@
 ghost use Rattle.std.specs.Prelude.{◌≡◌, ◌<◌, ◌≤◌, IfOk};
 ghost use Rattle.model.specs.Table.{empty_table};
 
+use crate::failures::{Failure, check, pass, retried};
 use bench_types::{Item, Mark};
 use fixtures::{holds, item};
 use node_table::NodeTable;
-use refusals::{Failure, check, pass, retried};
 
 /// What each of two nodes writes of its first key.
 pub(crate) const OWN: Item = item!(0, 0, 1, 0, 1);

@@ -4,11 +4,11 @@ ghost use Rattle.std.specs.Prelude.{◌≡◌, ◌≤◌, IfOk, OnOk};
 ghost use Rattle.model.specs.calls.OwnerListView.{written};
 ghost use Rattle.model.specs.calls.Writes.{AreBornBy};
 
+use crate::failures::{Failure, check, pass, retried};
 use crate::tables::{new_table, take, write};
 use bench_types::{Figures, Item};
 use fixtures::{NO_FIGURES, item};
 use node_table::NodeTable;
-use refusals::{Failure, check, pass, retried};
 use staleness::{OwnerList, figures};
 use std::thread::Threads;
 

@@ -7,11 +7,10 @@ ghost use Rattle.board.specs.Boards.{exchanges_of, IsSeatOf, seat_view};
 
 use crate::tests::comparing::expect;
 use crate::tests::small_boards::{ONE_ENTRY, TWICE, board_of, expect_owners, list_of};
-use crate::tests::tables::{Board, Hold, Seat};
+use crate::tests::tables::{Board, Seat};
 use bench_types::Fault;
 use board::{Claim, Progress};
 use node_table::NodeTable;
-use std::alloc::AllocGlobal;
 use std::process::Abort;
 
 // The answer in a word.

@@ -1,5 +1,5 @@
 -- What a claim leaves of a seat.
--- Serves `tests_of_boards` and `workers`.
+-- Serves `tests_of_runs` and `workers`.
 use Rattle.board.proofs.Common.{◌≡◌, ℕ, [], ◌∷◌, sym, ap, subst, arith, Table}
 use Rattle.board.specs.Weights.{Has, only}
 use Rattle.board.specs.SeatView.{SeatView}

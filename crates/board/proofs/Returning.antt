@@ -1,5 +1,5 @@
 -- What an exchange leaves of a hold's tables may be put back.
--- Serves `every_exchange_may_be_put_back`, `tests_of_boards` and `workers`.
+-- Serves `every_exchange_may_be_put_back`, `tests_of_runs` and `workers`.
 use Rattle.board.proofs.Common.{◌≡◌, ◌∙◌, sym, ap, subst, Table, Exchanged, exchange_at}
 use Rattle.model.specs.Exchanged.{exchanged}
 use Rattle.board.specs.Weights.{Has}

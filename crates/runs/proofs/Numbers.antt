@@ -1,5 +1,5 @@
 -- What the owners of a scenario write may stand under numbers below a bound.
--- Serves `write_in`, `write_in_few_bits` and `tests_of_runs`.
+-- Serves `write_in` and `write_in_few_bits`.
 use Rattle.runs.proofs.Common.{◌≡◌, ℕ, zero, suc, ◌*◌, ◌<◌, ◌≤◌, Bool, true, false, cond, List, [], ◌∷◌, length, sym, ap, ◌∙◌, arith, length-append, Some, Contains, same_Some, Entry, MOST_WRITES, sum_below-most, write_from, write_numbered, is_up, writes_in, count_before, own_writes, written_upto, length-own_writes, writes_in_le, apart-written_upto, Settings, IsLawfulScenario, MayWriteAll, IsWriteUnder}
 use Rattle.runs.specs.inner.Writes.{AreWrittenIn, HasWritesBelow, writes_if_up}
 

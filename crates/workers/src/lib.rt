@@ -9,7 +9,7 @@
 //! - What a thread is given goes through a lock, which tells its type's invariant alone. So a task ties its seat to the
 //!   board by the `Arc` that both lie in (`IsTask`), and what comes back goes through a tray with that board as its
 //!   label.
-//! - The tests stand beside those of `board`, in `tests_of_boards`, which share their lists and tables. They call
+//! - The tests stand beside those of `board`, in `tests_of_runs`, which share their lists and tables. They call
 //!   `run_list` of `pool` and `Posts`. A test of 2000 exchanges among 256 nodes, by threads over the board and by workers, is there
 //!   too: `acceptance` compares texts.
 #![tactic(auto)]

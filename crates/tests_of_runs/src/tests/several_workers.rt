@@ -17,7 +17,7 @@ use std::process::Abort;
 use std::sync::Wait;
 use std::thread::Threads;
 
-pub(crate) fn expect_same_round(rt: &impl Abort, round: &Round, alone: &Round) {
+fn expect_same_round(rt: &impl Abort, round: &Round, alone: &Round) {
     expect(rt, round.row(), alone.row());
     expect(rt, round.list().exchanges(), alone.list().exchanges());
     expect(rt, round.records(), alone.records());

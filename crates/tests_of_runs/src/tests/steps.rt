@@ -12,7 +12,7 @@ use std::sync::Wait;
 use std::thread::Threads;
 
 // The simulation of a scenario, before its first round.
-pub(crate) fn begin(alloc: Global, scenario: Scenario) -> Result<Sim, Fault> {
+fn begin(alloc: Global, scenario: Scenario) -> Result<Sim, Fault> {
     match Sim::new(alloc, scenario) {
         Ok(sim) => Ok(sim),
         Err((fault, _)) => Err(fault),

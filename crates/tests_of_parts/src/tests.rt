@@ -1,0 +1,23 @@
+//! The modules of tests, and what they share.
+
+mod above_marks;
+mod byte_ends;
+mod comparing;
+mod deltas;
+mod exchange_lists;
+mod exchanges;
+mod fixtures;
+mod generations;
+mod owner_entries;
+mod planned_rounds;
+mod played_lists;
+mod predecessors;
+mod printed_names;
+mod random_words;
+mod records;
+mod schedules;
+mod small_scenarios;
+mod stale_copies;
+mod tables;
+mod word_tables;
+mod written_lines;

@@ -2,7 +2,7 @@
 
 use crate::tests::comparing::check;
 use crate::tests::deltas::{NEW, OLD, sender};
-use crate::tests::fixtures::{expect_entries, item, new_table, take};
+use crate::tests::table_fixtures::{expect_entries, item, new_table, take};
 use bench_types::{Item, Mark};
 use node_table::NodeTable;
 use std::process::Abort;

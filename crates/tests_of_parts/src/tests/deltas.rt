@@ -1,7 +1,7 @@
 //! Deltas by hand: what is sent of one table in each mode.
 
 use crate::tests::comparing::{check, expect_at};
-use crate::tests::fixtures::{Turn, expect_mark, item, lawful, new_table, take};
+use crate::tests::table_fixtures::{Turn, expect_mark, item, lawful, new_table, take};
 use bench_types::{Budget, Item, Mode};
 use node_table::NodeTable;
 use reconcile::{Delta, Digest, delta};

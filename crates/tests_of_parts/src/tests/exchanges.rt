@@ -2,7 +2,7 @@
 
 use crate::tests::comparing::{check, expect_at};
 use crate::tests::deltas::unturned;
-use crate::tests::fixtures::{Turn, expect_held, item, lawful, new_table, take, write};
+use crate::tests::table_fixtures::{Turn, expect_held, item, lawful, new_table, take, write};
 use bench_types::{Budget, Exchange, Fate, Fault, Item, Mode, Record, Rules};
 use exchange::exchange;
 use node_table::NodeTable;

@@ -2,7 +2,7 @@
 
 use crate::tests::comparing::{check, expect_at};
 use crate::tests::deltas::answer;
-use crate::tests::fixtures::{
+use crate::tests::table_fixtures::{
     Turn, expect_entries, expect_held, expect_mark, forget, item, new_table, take, write,
 };
 use bench_types::{Budget, Item, Mark, Mode};

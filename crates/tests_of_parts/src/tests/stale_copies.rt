@@ -7,7 +7,7 @@ ghost use Rattle.model.specs.calls.Writes.{AreBornBy};
 ghost use Rattle.tests_of_parts.specs.Missed.{missed, missed_in};
 
 use crate::tests::comparing::{check, expect_at};
-use crate::tests::fixtures::{item, may_take, new_table};
+use crate::tests::table_fixtures::{item, may_take, new_table};
 use bench_types::{Figures, Item};
 use node_table::NodeTable;
 use staleness::{OwnerList, figures};

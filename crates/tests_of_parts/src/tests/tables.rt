@@ -1,7 +1,7 @@
 //! Tables by hand: what they hold is worked out from the rules.
 
 use crate::tests::comparing::{check, expect_at};
-use crate::tests::fixtures::{
+use crate::tests::table_fixtures::{
     expect_held, expect_mark, expect_same, item, items, new_table, take, try_write, write,
 };
 use bench_types::{Entry, Item, Mark};

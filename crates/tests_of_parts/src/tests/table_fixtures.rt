@@ -27,14 +27,14 @@ macro_rules! item {
         }
     };
     ($owner:expr, $key:expr, $version:expr, $value:expr, $born:expr) => {
-        crate::tests::fixtures::item!($owner, $key, generation 0, $version, $value, $born)
+        crate::tests::table_fixtures::item!($owner, $key, generation 0, $version, $value, $born)
     };
 }
 
 // Items of generation 0 that were born in round 1: by owner and key, the version and the value.
 macro_rules! items {
     ($($owner:literal $key:literal: $version:literal $value:literal),+) => {
-        [$(crate::tests::fixtures::item!($owner, $key, $version, $value, 1)),+]
+        [$(crate::tests::table_fixtures::item!($owner, $key, $version, $value, 1)),+]
     };
 }
 

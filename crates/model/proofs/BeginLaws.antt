@@ -1,7 +1,7 @@
 -- Laws of the begin of a round, for the crates above: own writes and restarts leave copies that hold nothing but their
 -- owners' writes, and none with a gap. Only the owner writes its own state, and each write gets a mark above all
 -- earlier ones; a restart may drop what the node holds of another owner, and of itself where it forgets.
--- Serves `no_copy_is_ahead`, `fixtures`, `run_laws` and `simulation`.
+-- Serves `no_copy_is_ahead`, `cluster`, `fixtures`, `played_rounds` and `run_laws`.
 use Rattle.model.proofs.Common.{◌≡◌, ◌≢◌, ℕ, suc, ◌+◌, ◌<◌, ◌≤◌, List, [], ◌∷◌, ◌++◌, length, Some, None, ◌⊎◌, inl, inr, All, refl, sym, ap, ◌∙◌, subst, arith, append_assoc, cases_eq, cases_lt, append-nil, get_or_past, All-head, All-tail, Contains-append_left, Contains-push, Contains-push_cases, Entry, Mark, next_version, IsNextAfter, AreNextAfter, mark_of, mark_held, IsBefore, IsUpTo, absent-first, before-up_to, not_both, up_to-before, up_to-itself, up_to-then, same_Some}
 use Rattle.std.specs.Prelude.{Contains}
 use Rattle.model.specs.Table.{Table, empty_table, entry_at, mark_at, greatest_mark, greatest_version, own_write, with_own_write, with_own_writes, without_others, without_all, IsProper}

@@ -1,7 +1,7 @@
 -- Laws of an exchange, for the crates above: in every mode, with every rotation, budget and loss, but where a law
 -- names a mode or what was sent. That neither side's own part changes is in OwnParts.
 -- Serves `enough_budget_cuts_nothing`, `entries_come_from_either`, `whole_precise_exchanges_give_the_newer`,
--- `BeginLaws`, `FoldLaws`, `run_laws` and `simulation`.
+-- `BeginLaws`, `FoldLaws`, `played_rounds` and `run_laws`.
 use Rattle.model.proofs.Common.{◌≡◌, ℕ, ◌<◌, max, inl, inr, refl, sym, ◌∙◌, subst, arith, if◌then◌else◌, Exchange, Fate, Rules, digest_kind, up_to-itself, up_to-then}
 use Rattle.bench_types.specs.declared.exchanges.Fate.TheVariants as fate
 use Rattle.model.specs.Table.{Table, applied, mark_at, greatest_mark, IsProper}

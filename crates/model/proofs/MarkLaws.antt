@@ -1,6 +1,6 @@
 -- Laws of marks: when one goes down, and the greatest of an owner after a write, after a list of items and after a
 -- restart.
--- Serves `BeginLaws`, `Owns`, `ProperLaws`, `Received`, `fixtures`, `node_table`, `run_laws` and `simulation`.
+-- Serves `BeginLaws`, `Owns`, `ProperLaws`, `Received` and the crates above.
 use Rattle.model.proofs.Common.{◌≡◌, ◌≢◌, ℕ, zero, suc, ◌<◌, ◌≤◌, List, [], ◌∷◌, Some, None, All, ◌⊎◌, inl, inr, if◌then◌else◌, refl, sym, ap, ◌∙◌, subst, arith, cases_eq, eq-eqb, ne_eqb, All-head, All-tail, Item, Mark, absent, mark_of, mark_held, IsBefore, IsUpTo, later, up_to-itself, up_to-then, up_to-both, before-up_to, absent-first, first-later, second-later, later-up_to, later-first, later-second, cases_later, mark_held-newer}
 use Rattle.std.specs.Prelude.{Contains}
 use Rattle.model.specs.Table.{Table, empty_table, entry_at, mark_at, greatest_mark, generation_held, taken, applied, own_write, with_own_write, without_others, without_all, IsProper}

@@ -1,6 +1,6 @@
 -- A node's own part stays the last writes of its list, through its own writes and what it receives. For callers that
 -- keep tables and lists side by side.
--- Serves `simulation`.
+-- Serves `cluster`.
 use Rattle.model.proofs.Common.{◌≡◌, ℕ, ◌+◌, ◌≤◌, Bool, true, false, cond, eqb, List, [], ◌∷◌, ◌++◌, length, Some, option_map, if◌then◌else◌, refl, sym, ap, ◌∙◌, arith, nat_cmp, ordering_then, is_eq, eq_by_cmp, get-empty, get-insert, nat_cmp-equal}
 use Rattle.model.specs.Table.{place_cmp, Table, empty_table, entry_at, greatest_version, own_write, with_own_write}
 use Rattle.model.proofs.Order.{place_total}

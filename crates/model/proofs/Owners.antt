@@ -1,5 +1,5 @@
 -- The lists of all owners, and what one more write is in them.
--- Serves `bench`, `simulation`, `staleness` and `version_lags`.
+-- Serves the crates above.
 use Rattle.model.proofs.Common.{◌≡◌, ℕ, ◌+◌, ◌<◌, List, [], ◌∷◌, ◌++◌, length, get_or, sym, ap, ◌∙◌, length-map, map-append, get_or-map}
 use Rattle.model.specs.declared.writes.Write.{Write}
 use Rattle.model.specs.calls.OwnerListView.{OwnerListView, written, next_entry, with_write, lists_in}

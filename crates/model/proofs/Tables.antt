@@ -1,5 +1,5 @@
 -- The tables of all nodes, in order: how they are read, written and made, and that they stay so where each keeps its own part.
--- Serves `FoldLaws`, `list_order`, `planner`, `run_laws` and `simulation`.
+-- Serves `FoldLaws` and the crates above.
 use Rattle.model.proofs.Common.{◌≡◌, ◌≢◌, ℕ, zero, suc, ◌<◌, List, length, map, set, sym, ◌∙◌, subst, arith, range_with_len, ext_get_or, get_or-set_same, get_or-set_other, get_or-map-range_with_len}
 use Rattle.model.specs.Table.{Table, empty_table}
 use Rattle.model.specs.inner.Owns.{KeepsOwn, KeepOwnParts}

@@ -1,5 +1,5 @@
 -- The generation of a node never falls, and grows in a round in which the node forgets and in no other.
--- Serves `run_laws` and `simulation`.
+-- Serves `cluster`, `played_rounds` and `run_laws`.
 use Rattle.round_plan.proofs.Common.{◌≡◌, ℕ, zero, suc, ◌+◌, ◌-◌, ◌≤◌, Bool, true, false, ◌&&◌, ◌==◌, if◌then◌else◌, List, [], ◌∷◌, ◌||◌, get_or, All, refl, ap, ◌∙◌, inl, inr, arith, list_any, cases_lt, and_parts, All-tail, Settings, IsLawfulScenario}
 use Rattle.round_plan.specs.Generations.{generation_upto}
 use Rattle.round_plan.specs.Outages.{restarts_in, forgets_in, restarts_now, forgets_now}

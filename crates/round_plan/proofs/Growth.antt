@@ -1,5 +1,5 @@
 -- How the writes of an owner grow from round to round, in its generation and over all of them.
--- Serves `writes_by`, `Written`, `run_laws`, `runs` and `simulation`.
+-- Serves `writes_by`, `Written`, `cluster`, `played_rounds`, `run_laws` and `runs`.
 use Rattle.round_plan.proofs.Common.{◌≡◌, ℕ, zero, suc, ◌+◌, ◌-◌, ◌*◌, ◌<◌, ◌≤◌, Bool, true, false, if◌then◌else◌, List, [], ◌∷◌, ◌++◌, map, reverse, find, option_map, unwrap_or, Some, length, get_or, All, refl, sym, ap, ◌∙◌, subst, inl, inr, arith, length-append, range_with_len, get_or-append, mod-lt, cases_lt, cond_both, length-map, length-reverse, get_or-reverse, get_or-append_right, get_or-map, All-nil, All-tail, All-map, length-map-range_with_len, get_or-map-range_with_len, Entry, IsNextAfter, AreNextAfter, MOST_WRITES, Load, Settings, IsLawfulScenario}
 use Rattle.round_plan.specs.declared.owners.OwnWrite.{OwnWrite}
 use Rattle.round_plan.specs.Generations.{generation_upto}

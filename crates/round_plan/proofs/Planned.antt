@@ -1,5 +1,5 @@
 -- The list of a round has exchanges of two different nodes, for the crates above.
--- Serves `Listed`, `run_laws` and `simulation`.
+-- Serves `Listed`, `played_rounds` and `run_laws`.
 use Rattle.round_plan.proofs.Common.{◌≡◌, ◌≢◌, ℕ, ◌+◌, ◌-◌, ◌<◌, ◌≤◌, ◌%◌, All, inl, inr, ap, ◌∙◌, sym, arith, range_with_len, mod-lt, mod-eq_of_lt, add-mod_right, cases_lt, All-map, All-filter, get_or-range_with_len, length-range_with_len, Peers, Random, Ring, Rotation, Settings, IsPlanned}
 use Rattle.scenario.specs.declared.choices.Rotation.TheVariants as rotation
 use Rattle.round_plan.specs.Peer.{random_peer, ring_peer, peer_by}

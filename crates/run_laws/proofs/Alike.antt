@@ -3,10 +3,10 @@
 use Rattle.run_laws.proofs.Common.{◌≡◌, ℕ, ◌+◌, ◌-◌, ◌<◌, ◌≤◌, cond, List, [], ◌∷◌, ◌++◌, length, fold, All, refl, sym, ap, ◌∙◌, subst, arith, All-head, All-tail, sum_by-append, sum_by-cons, Exchange, Fate, Record, Rules, IsPlanned, digest_kind, Settings, Table, table_of_node, AreCopiesOf, WritesBy, DeltaView, delta_between, digest_size, exchanged, fate_of, sent_until, figures_of, Folded, exchange_in, RoundListView, lengths-alike, same_tables, round_list_of, planned_list}
 use Rattle.bench_types.specs.declared.exchanges.Fate.TheVariants as fate
 use Rattle.run_laws.specs.Floors.{with_rules, CutsNothingUpTo}
-use Rattle.simulation.specs.Outcomes.{figures_in, row_in}
-use Rattle.simulation.specs.Rounds.{begun, rules_of, tables_after, records_in}
-use Rattle.simulation.specs.Rows.{has_lost, lost_count, entry_count, cut_total}
-use Rattle.simulation.specs.Soundness.{writes_by}
+use Rattle.played_rounds.specs.Outcomes.{figures_in, row_in}
+use Rattle.cluster.specs.Rounds.{begun, rules_of, tables_after, records_in}
+use Rattle.played_rounds.specs.Rows.{has_lost, lost_count, entry_count, cut_total}
+use Rattle.played_rounds.specs.Soundness.{writes_by}
 use Rattle.run_laws.proofs.Best.{same_writes, begun_beside, beside_after}
 use Rattle.run_laws.proofs.Floors.{uncut_round}
 use Rattle.run_laws.proofs.Modes.{same_list, same_lists}

@@ -2,10 +2,10 @@
 -- Serves `ample_budgets_cut_nothing` and `SmallRings`.
 use Rattle.run_laws.proofs.Common.{◌≡◌, ◌≢◌, ℕ, zero, suc, ◌+◌, ◌-◌, ◌*◌, ◌%◌, ◌<◌, ◌≤◌, not, ◌&&◌, eqb, if◌then◌else◌, List, [], ◌∷◌, length, get_or, fold, All, AllPairs, inl, inr, refl, sym, ap, subst, arith, nat_lt, Less, mod-lt, mul-le-mul_right, cases_lt, le-ltb, lt-ltb, All-head, All-tail, AllPairs-filter, sum_by-append, sum_by-cons, sum_by-le, Entry, Item, Budget, Entries, Bytes, Exchange, Fate, Mode, Record, Rules, ENTRY_SIZES, amount_of, share_of, largest_share, IsPlanned, mark_of, is_before, digest_kind, Settings, IsLawfulScenario, place_cmp, Table, items_of, IsProper, IsItemInPlace, table_of_node, AreTablesInOrder, AreProper, known_mark, candidates, DeltaView, item_share, delta_between, AreWithin, digest_size, exchanged, fate_of, sent_until, Folded, exchange_in, no_item, place_of, cut-none, step_proper, step_tables, place_less, apart-items_of, candidates-in_place, round_list_of, planned_list}
 use Rattle.bench_types.specs.declared.exchanges.Fate.TheVariants as fate
-use Rattle.simulation.specs.Rounds.{begun, rules_of, tables_after}
-use Rattle.simulation.specs.Rows.{cut_total}
+use Rattle.cluster.specs.Rounds.{begun, rules_of, tables_after}
+use Rattle.played_rounds.specs.Rows.{cut_total}
 use Rattle.run_laws.specs.Healing.{AmpleBudgetsCutNothing}
-use Rattle.simulation.proofs.Soundness.{begun_sound}
+use Rattle.played_rounds.proofs.Soundness.{begun_sound}
 
 -- the number of an owner among all but one, and of a place among those of these owners
 among_others : ℕ → ℕ → ℕ

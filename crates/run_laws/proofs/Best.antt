@@ -3,14 +3,14 @@
 -- Serves `uncut_runs_are_best`, `Alike` and `Bounds`.
 use Rattle.run_laws.proofs.Common.{◌≡◌, ◌≢◌, ℕ, zero, suc, ◌-◌, ◌<◌, ◌≤◌, true, false, if◌then◌else◌, List, [], length, AllPairs, Some, None, inl, inr, refl, sym, ap, ◌∙◌, subst, arith, cases_eq, cases_lt, get_or_past, get_or-map-range_with_len, AllPairs-filter, Entry, Rules, up_to-itself, Figures, Settings, Table, empty_table, entry_at, mark_at, greatest_mark, IsProper, table_of_node, AreCopiesOf, NoMarkFalls, writes_of_owner, figures_of, fold_of, RoundListView, HoldAsMuch, Write, write_of_entry, marks_stay, before_keeps_own, AllPairs-map, generation_upto, restarts_now, round_list_of, writes_upto, written_upto, planned_list, is_of, writes_upto-filtered}
 use Rattle.run_laws.specs.Floors.{with_rules, CutsNothingUpTo, IsAsGood}
-use Rattle.simulation.specs.Lists.{list_after, lists_after}
-use Rattle.simulation.specs.Outcomes.{figures_in}
-use Rattle.simulation.specs.Rounds.{begun, rules_of, round_of, tables_after}
-use Rattle.simulation.specs.Soundness.{writes_by}
+use Rattle.played_rounds.specs.Lists.{list_after, lists_after}
+use Rattle.played_rounds.specs.Outcomes.{figures_in}
+use Rattle.cluster.specs.Rounds.{begun, rules_of, round_of, tables_after}
+use Rattle.played_rounds.specs.Soundness.{writes_by}
 use Rattle.run_laws.proofs.Floors.{gone-as_much, kept-as_much, copies_after, copies_begun, begun-others, same_keys, next_tables, begun_states, uncut_round, states_after}
 use Rattle.run_laws.proofs.Modes.{generation, restarts, same_list, same_lists, written}
-use Rattle.simulation.proofs.Soundness.{sound_run, counts_after}
-use Rattle.simulation.proofs.Written.{births_rise}
+use Rattle.played_rounds.proofs.Soundness.{sound_run, counts_after}
+use Rattle.cluster.proofs.Written.{births_rise}
 use Rattle.run_laws.proofs.StateFigures.{NoneIsOlder, stale-le, greatest-le}
 use Rattle.run_laws.proofs.StateFolds.{AreBeside, own_beside, fold_beside}
 use Rattle.run_laws.proofs.States.{HoldsAsMuchOf}

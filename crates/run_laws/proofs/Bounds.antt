@@ -4,16 +4,16 @@ use Rattle.run_laws.proofs.Common.{◌≡◌, ◌≢◌, ℕ, zero, suc, ◌+◌
 use Rattle.model.specs.Figures.{figures_of}
 use Rattle.run_laws.specs.CatchingUp.{AllArePassedOn, StalenessIsBounded}
 use Rattle.run_laws.specs.Floors.{CutsNothingUpTo}
-use Rattle.simulation.specs.Lists.{list_after, lists_after}
-use Rattle.simulation.specs.Outcomes.{figures_in}
+use Rattle.played_rounds.specs.Lists.{list_after, lists_after}
+use Rattle.played_rounds.specs.Outcomes.{figures_in}
 use Rattle.run_laws.specs.Paths.{next_moment}
-use Rattle.simulation.specs.Rounds.{begun, tables_after}
-use Rattle.simulation.specs.Soundness.{writes_by}
+use Rattle.cluster.specs.Rounds.{begun, tables_after}
+use Rattle.played_rounds.specs.Soundness.{writes_by}
 use Rattle.run_laws.proofs.Best.{begun_generation}
 use Rattle.run_laws.proofs.CatchingUp.{paths_catch_up}
 use Rattle.run_laws.proofs.Floors.{copies_after, copies_begun, states_after, uncut_rows}
 use Rattle.run_laws.proofs.Moments.{not_after, sound}
-use Rattle.simulation.proofs.Soundness.{counts_after}
+use Rattle.played_rounds.proofs.Soundness.{counts_after}
 
 -- what was written by a round stands among the writes up to it
 written_by : (s : Settings) (owner from to : ℕ) (e : Entry) → from ≤ to → e.born ≤ from → Contains (written_upto s owner to) e → Contains (written_upto s owner from) e

@@ -5,9 +5,9 @@ use Rattle.run_laws.specs.CatchingUp.{KeepsCopy, IsPassedOn, begins, keeps, pass
 use Rattle.run_laws.specs.Floors.{CutsNothingBefore}
 use Rattle.run_laws.specs.Healing.{Moment, IsUpToMoment, table_at_moment}
 use Rattle.run_laws.specs.Paths.{next_moment}
-use Rattle.simulation.specs.Rounds.{after_restart, rules_of, tables_after}
-use Rattle.simulation.specs.Soundness.{writes_by, tables_within}
-use Rattle.simulation.proofs.Begun.{begun_at}
+use Rattle.cluster.specs.Rounds.{after_restart, rules_of, tables_after}
+use Rattle.played_rounds.specs.Soundness.{writes_by, tables_within}
+use Rattle.cluster.proofs.Begins.{begun_at}
 use Rattle.run_laws.proofs.Floors.{copies_are_states}
 use Rattle.run_laws.proofs.Moments.{comes_back, comes_forth, cut_back, cut_forth, delta, folded, here, moments_then, next_tables, not_after, placed, planned, record_at, sound, stays, us}
 use Rattle.run_laws.proofs.StateFolds.{CutsNothing, MissNone, brought}

@@ -4,14 +4,14 @@
 use Rattle.run_laws.proofs.Common.{◌≡◌, ◌≢◌, ℕ, zero, suc, ◌+◌, ◌-◌, ◌<◌, ◌≤◌, true, false, if◌then◌else◌, List, [], ◌∷◌, length, take, All, Some, None, inl, inr, refl, sym, ap, ◌∙◌, subst, arith, Contains, cases_eq, All-take, Contains-append_cases, Entry, Mark, Exchange, Record, IsPlanned, absent, mark_of, mark_held, IsBefore, IsUpTo, absent-first, not_both, up_to-then, Settings, Table, entry_at, mark_at, greatest_mark, greatest_version, with_own_write, with_own_writes, without_others, without_all, table_of_node, AreCopiesOf, own_mark, MissesNone, copy-up_to, greatest_mark-same, greatest_mark-none, entry_at-own_write_other, entry_at-without_all, entry_at-without_others_other, generation_upto, forgets_now, restarts_now, round_list_of, count_upto, count_before, own_writes, written_upto, generation_upto-same, generation_upto-next, restarts-forgets, count_before-grown, next-own_writes, written_upto-grown, planned_list, get_or_from_slice_get, slice_get_within}
 use Rattle.run_laws.specs.Floors.{CutsNothingBefore, CutsNothingUpTo, UncutCopiesAreStates}
 use Rattle.run_laws.specs.Healing.{Moment, IsUpToMoment}
-use Rattle.simulation.specs.Outcomes.{row_in}
+use Rattle.played_rounds.specs.Outcomes.{row_in}
 use Rattle.run_laws.specs.Paths.{next_moment}
-use Rattle.simulation.specs.Rounds.{after_restart, begun, rules_of, round_of, tables_after, records_in}
-use Rattle.simulation.specs.Soundness.{writes_by, tables_within, IsSoundRun}
-use Rattle.simulation.proofs.Begun.{begun_at}
+use Rattle.cluster.specs.Rounds.{after_restart, begun, rules_of, round_of, tables_after, records_in}
+use Rattle.played_rounds.specs.Soundness.{writes_by, tables_within, IsSoundRun}
+use Rattle.cluster.proofs.Begins.{begun_at}
 use Rattle.run_laws.proofs.Moments.{not_after, recorded_before}
 use Rattle.run_laws.proofs.Rings.{sum_none}
-use Rattle.simulation.proofs.Soundness.{sound_run, counts_after}
+use Rattle.played_rounds.proofs.Soundness.{sound_run, counts_after}
 use Rattle.run_laws.proofs.StateFolds.{CutNothing, MissNone, misses-own, fold_states}
 use Rattle.run_laws.proofs.States.{HoldsAsMuchOf, as_much-from}
 
@@ -69,7 +69,7 @@ restarted-node s round n t = elim (forgets_now s n round) as (λ b. (if b then w
 ]
 
 -- a row that cut nothing has no record that did
-pub uncut_records : (records : List Record) → Rattle.simulation.specs.Rows.cut_total records ≡ 0 → CutNothing records
+pub uncut_records : (records : List Record) → Rattle.played_rounds.specs.Rows.cut_total records ≡ 0 → CutNothing records
 uncut_records records none r there =
     let both = sum_none (λ (x : Record). x.back_cut + x.forth_cut) records r none there in
     (omega (arith, both), omega (arith, both))

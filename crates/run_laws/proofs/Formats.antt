@@ -7,12 +7,12 @@ use Rattle.scenario.specs.declared.elements.Restart.{Restart}
 use Rattle.std.specs.List.{list_any}
 use Rattle.std.specs.Prelude.{◌||◌}
 use Rattle.run_laws.specs.Formats.{NeverForgets, LeavesNothingOver, FormatHasNoPart}
-use Rattle.simulation.specs.Outcomes.{figures_in, row_in}
-use Rattle.simulation.specs.Rounds.{restarted, begun, rules_of, round_of, tables_after, records_in}
-use Rattle.simulation.specs.Rows.{row_of}
+use Rattle.played_rounds.specs.Outcomes.{figures_in, row_in}
+use Rattle.cluster.specs.Rounds.{restarted, begun, rules_of, round_of, tables_after, records_in}
+use Rattle.played_rounds.specs.Rows.{row_of}
 use Rattle.run_laws.proofs.Modes.{forgets, restarts, now, same_list, same_lists}
 use Rattle.run_laws.proofs.Rings.{sum_below-none}
-use Rattle.simulation.proofs.Soundness.{sound_run, counts_after}
+use Rattle.played_rounds.proofs.Soundness.{sound_run, counts_after}
 
 none_forget : (s : Settings) → NeverForgets s → (node round : ℕ) → forgets_now s node round ≡ false
 unfolding forgets_now

@@ -1,10 +1,10 @@
 -- How long copies of a run stay fresh.
 -- Serves `fresh_copies_stay` and `Paths`.
 use Rattle.run_laws.proofs.Common.{◌≡◌, ℕ, ◌-◌, ◌<◌, ◌≤◌, true, false, if◌then◌else◌, List, Some, sym, ap, ◌∙◌, subst, arith, Entry, Settings, IsLawfulScenario, Table, entry_at, with_own_writes, without_others, without_all, IsProper, table_of_node, AreCopiesOf, WritesBy, before_keeps_own, entry_at-without_all, entry_at-without_others_own, forgets_now, restarts_now, round_list_of, planned_list}
-use Rattle.simulation.specs.Rounds.{after_restart, begun, rules_of, tables_after}
-use Rattle.simulation.specs.Soundness.{writes_by, tables_within}
+use Rattle.cluster.specs.Rounds.{after_restart, begun, rules_of, tables_after}
+use Rattle.played_rounds.specs.Soundness.{writes_by, tables_within}
 use Rattle.run_laws.specs.Healing.{LeavesCopy, FreshCopiesStay}
-use Rattle.simulation.proofs.Begun.{begun_at}
+use Rattle.cluster.proofs.Begins.{begun_at}
 use Rattle.run_laws.proofs.Moments.{not_after, sound, stays}
 use Rattle.run_laws.proofs.Fresh.{HasAllOf, all_stays, fresh_from, has_all}
 

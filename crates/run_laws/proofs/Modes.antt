@@ -3,7 +3,7 @@
 use Rattle.run_laws.proofs.Common.{◌≡◌, ℕ, zero, suc, ◌+◌, ◌++◌, [], map, if◌then◌else◌, refl, range_with_len, Rules, next_version, write_of_entry, generation_upto, round_list_of, word_of, number_by, count_upto, count_before, numbered_write, own_writes, writes_upto, written_upto, Settings}
 use Rattle.round_plan.specs.Outages.{forgets_now, is_up, restarts_now, separated}
 use Rattle.round_plan.specs.Writes.{writes_in}
-use Rattle.simulation.specs.Lists.{lists_after}
+use Rattle.played_rounds.specs.Lists.{lists_after}
 
 module _ (s : Settings) (format : ℕ) (rules : Rules) where
   abbrev s' : Settings

@@ -3,9 +3,9 @@
 use Rattle.run_laws.proofs.Common.{◌≡◌, ℕ, zero, suc, ◌+◌, ◌-◌, ◌<◌, ◌≤◌, Bool, true, false, if◌then◌else◌, List, [], length, take, drop, fold, get_or, Some, inl, inr, refl, sym, ap, ◌∙◌, subst, arith, slice_get, Contains, take-append-drop, take_all, fold-append, fold_more, get_or_from_slice_get, slice_get_within, Exchange, digest_kind, IsPlanned, Settings, IsLawfulScenario, Table, applied, table_of_node, DeltaView, delta_between, digest_size, LosesNothing, fate_of, initiator_after, last_fate, responder_after, sent_until, Folded, exchange_in, fold_of, initiator_is, responder_is, round_list_of, planned_list, length-append, get_or-append, length-take, get_or-append_right, slice_get-get_or, Record, Rules, fold_counts_records, exchanged, ◌∷◌}
 use Rattle.bench_types.specs.declared.exchanges.Fate.TheVariants as fate
 use Rattle.run_laws.specs.Healing.{Moment, IsUpToMoment, table_at_moment}
-use Rattle.simulation.specs.Rounds.{begun, rules_of, tables_after, records_in}
-use Rattle.simulation.specs.Soundness.{AreSound, tables_within, IsSoundRun}
-use Rattle.simulation.proofs.Soundness.{sound_run}
+use Rattle.cluster.specs.Rounds.{begun, rules_of, tables_after, records_in}
+use Rattle.played_rounds.specs.Soundness.{AreSound, tables_within, IsSoundRun}
+use Rattle.played_rounds.proofs.Soundness.{sound_run}
 
 -- where two messages came the last one decides
 fate-answered : (e : Exchange) → e.lost1 ≡ false → e.lost2 ≡ false → fate_of e ≡ last_fate e.lost3

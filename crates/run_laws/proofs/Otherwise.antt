@@ -7,14 +7,14 @@ use Rattle.round_plan.specs.Outages.{forgets_now, is_up, restarts_now}
 use Rattle.round_plan.specs.Writes.{writes_in}
 use Rattle.limits.specs.declared.TheConstants.{MOST_LOSS}
 use Rattle.run_laws.specs.Healing.{Moment, IsHealed}
-use Rattle.simulation.specs.Lists.{list_after, lists_after}
-use Rattle.simulation.specs.Outcomes.{figures_in}
+use Rattle.played_rounds.specs.Lists.{list_after, lists_after}
+use Rattle.played_rounds.specs.Outcomes.{figures_in}
 use Rattle.run_laws.specs.Paths.{HandsOn, back, forth}
-use Rattle.simulation.specs.Rounds.{tables_after}
+use Rattle.cluster.specs.Rounds.{tables_after}
 use Rattle.run_laws.specs.calls.SmallRings.{ring_of_three, ring_that_loses}
 use Rattle.run_laws.proofs.Moments.{sound}
 use Rattle.run_laws.proofs.Rings.{rings_heal}
-use Rattle.simulation.proofs.Soundness.{counts_after, round_rises}
+use Rattle.played_rounds.proofs.Soundness.{counts_after, round_rises}
 use Rattle.run_laws.proofs.SmallRings.{none_held, none_meet, quiet, ring_lawful}
 
 sum_below-has : (n : ℕ) (f : ℕ → ℕ) (i : ℕ) → i < n → f i ≤ sum_below n f

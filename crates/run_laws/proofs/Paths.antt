@@ -2,8 +2,8 @@
 -- Serves `exchanges_make_fresh`, `paths_make_fresh`, `uncut_exchanges_hand_on`, `Rings` and `SmallRings`.
 use Rattle.run_laws.proofs.Common.{◌≡◌, ℕ, ◌+◌, ◌<◌, ◌≤◌, false, Some, inl, inr, refl, sym, ◌∙◌, subst, arith, Bool, true, if◌then◌else◌, slice_get, cases_eq, Exchange, Record, digest_kind, Settings, IsLawfulScenario, applied, table_of_node, DeltaView, digest_size, last_fate, sent_until, sent-uncut, round_list_of, IsSomeAnd}
 use Rattle.bench_types.specs.declared.exchanges.Fate.TheVariants as fate
-use Rattle.simulation.specs.Rounds.{rules_of}
-use Rattle.simulation.specs.Soundness.{writes_by, tables_within}
+use Rattle.cluster.specs.Rounds.{rules_of}
+use Rattle.played_rounds.specs.Soundness.{writes_by, tables_within}
 use Rattle.run_laws.specs.Healing.{Moment, IsFreshAt, ExchangesMakeFresh, SendsOwnPartAt, AnswersWhole, table_at_moment}
 use Rattle.run_laws.specs.Paths.{next_moment, SendsCopyAt, HandsOn, back, forth, UncutExchangesHandOn, IsReached, own, stays, handed, PathsMakeFresh}
 use Rattle.run_laws.proofs.Moments.{comes_back, comes_forth, delta, folded, here, next_tables, not_after, placed, planned, record_at, sound, us}

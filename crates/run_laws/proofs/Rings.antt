@@ -2,14 +2,14 @@
 -- Serves `quiet_rings_heal`, `Floors`, `Formats`, `Otherwise` and `SmallRings`.
 use Rattle.run_laws.proofs.Common.{◌≡◌, ◌≢◌, ℕ, zero, suc, ◌+◌, ◌-◌, ◌*◌, ◌/◌, ◌%◌, ◌<◌, ◌≤◌, Bool, true, false, not, ◌&&◌, cond, eqb, if◌then◌else◌, List, [], ◌∷◌, map, length, get_or, All, Some, None, ◌⊎◌, inl, inr, refl, sym, ap, ◌∙◌, subst, arith, slice_get, Contains, range_with_len, filter, sum_by, option_map, mod-lt, mod-eq_of_lt, mod-add-div, add-mul-mod_self_left, add-mod_right, cases_lt, cases_eq, ne_eqb, le-ltb, slice_get-get_or, All-tail, sum_by-cons, get_or-map-range_with_len, length-map-range_with_len, get_or-range_with_len, length-range_with_len, Entry, Mark, mark_of, is_before, IsUpTo, sum_below, most_below, before-no, Ring, Settings, IsLawfulScenario, Table, entry_at, mark_at, greatest_version, table_of_node, writes_of_owner, generation_at, staleness_of, staleness_at, is_left_over, leftover_at, stale_count, rounds_behind, Write, write_of_entry, first_above, generation_upto, is_up, ring_peer, peer_by, peer_of, begins, exchange_of, round_list_of, word_of, count_before, count_upto, own_write_at, writes_in, writes_upto, next-writes_upto, written-writes_upto, HasOwnPart, IsFresh}
 use Rattle.model.specs.Figures.{figures_of}
-use Rattle.simulation.specs.Lists.{list_after, lists_after}
-use Rattle.simulation.specs.Rounds.{tables_after}
-use Rattle.simulation.specs.Soundness.{writes_by, AreSound}
+use Rattle.played_rounds.specs.Lists.{list_after, lists_after}
+use Rattle.cluster.specs.Rounds.{tables_after}
+use Rattle.played_rounds.specs.Soundness.{writes_by, AreSound}
 use Rattle.run_laws.specs.Healing.{Moment, IsUpToMoment, LeavesCopy, IsQuiet, HaveWrittenSince, IsHealed, QuietRingsHeal}
 use Rattle.run_laws.specs.Paths.{next_moment, HandsOn, own, stays, handed}
 use Rattle.run_laws.proofs.Moments.{ended, record_at, recorded, sound}
 use Rattle.run_laws.proofs.Paths.{hands_on_recorded, paths_fresh}
-use Rattle.simulation.proofs.Soundness.{counts_after}
+use Rattle.played_rounds.proofs.Soundness.{counts_after}
 use Rattle.run_laws.proofs.Fresh.{HasAllOf, has_all, of_generation, not_behind}
 
 -- so many steps from a start there is one with a given rest

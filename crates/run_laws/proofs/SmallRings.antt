@@ -14,17 +14,17 @@ use Rattle.run_laws.specs.CatchingUp.{KeepsCopy, IsPassedOn, begins as starts, k
 use Rattle.run_laws.specs.Floors.{CutsNothingBefore, CutsNothingUpTo}
 use Rattle.run_laws.specs.Formats.{NeverForgets}
 use Rattle.run_laws.specs.Healing.{Moment, table_at_moment, IsFreshAt, LeavesCopy, AnswersWhole, IsQuiet, AreQuietAfter, HaveWrittenSince, IsHealed, IsAmple, SendsOwnPartAt}
-use Rattle.simulation.specs.Outcomes.{row_in}
+use Rattle.played_rounds.specs.Outcomes.{row_in}
 use Rattle.run_laws.specs.Paths.{next_moment, SendsCopyAt, HandsOn, IsReached, own, handed}
-use Rattle.simulation.specs.Rounds.{begun, rules_of, tables_after, records_in}
-use Rattle.simulation.specs.Soundness.{tables_within}
+use Rattle.cluster.specs.Rounds.{begun, rules_of, tables_after, records_in}
+use Rattle.played_rounds.specs.Soundness.{tables_within}
 use Rattle.run_laws.specs.calls.SmallRings.{apart_at_first, restart_of_first, ring_of_three, having_written, meeting, having_met, having_restarted}
 use Rattle.run_laws.proofs.Ample.{ample_cuts}
 use Rattle.run_laws.proofs.Floors.{begun-others, uncut_round, uncut_rows}
 use Rattle.run_laws.proofs.Moments.{cut_back, fate-ended, not_after, placed, planned, record_at, recorded, sound}
 use Rattle.run_laws.proofs.Paths.{all_sent, hands_on_recorded}
 use Rattle.run_laws.proofs.Rings.{listed}
-use Rattle.simulation.proofs.Soundness.{counts_after}
+use Rattle.played_rounds.proofs.Soundness.{counts_after}
 
 below_2 : (P : ℕ → Type 0) → P 0 → P 1 → (n : ℕ) → n < 2 → P n
 below_2 P a b zero lt = a

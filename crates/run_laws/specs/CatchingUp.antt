@@ -13,7 +13,7 @@ use Rattle.round_plan.specs.Outages.{forgets_now, restarts_now}
 use Rattle.round_plan.specs.Plan.{round_list_of}
 use Rattle.run_laws.specs.Floors.{CutsNothingBefore, CutsNothingUpTo}
 use Rattle.run_laws.specs.Healing.{Moment, IsUpToMoment, table_at_moment}
-use Rattle.simulation.specs.Outcomes.{figures_in}
+use Rattle.played_rounds.specs.Outcomes.{figures_in}
 use Rattle.run_laws.specs.Paths.{next_moment}
 
 -- as a round begins a node keeps what it holds of an owner: it doesn't restart, or is the owner and doesn't forget

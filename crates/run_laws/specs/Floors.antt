@@ -6,9 +6,9 @@ use Rattle.bench_types.specs.declared.exchanges.Record.{Record}
 use Rattle.bench_types.specs.declared.exchanges.Rules.{Rules}
 use Rattle.scenario.specs.Settings.{Settings}
 use Rattle.model.specs.States.{HoldStates, HoldAsMuch}
-use Rattle.simulation.specs.Rounds.{tables_after, records_in}
-use Rattle.simulation.specs.Outcomes.{figures_in, row_in}
-use Rattle.simulation.specs.Soundness.{writes_by, tables_within}
+use Rattle.cluster.specs.Rounds.{tables_after, records_in}
+use Rattle.played_rounds.specs.Outcomes.{figures_in, row_in}
+use Rattle.played_rounds.specs.Soundness.{writes_by, tables_within}
 use Rattle.run_laws.specs.Healing.{Moment, IsUpToMoment}
 use Rattle.run_laws.specs.Paths.{next_moment}
 

@@ -2,8 +2,8 @@
 -- they say the same. Source: this project.
 use Rattle.std.specs.Prelude.{◌≡◌, ℕ, false, All}
 use Rattle.scenario.specs.Settings.{Settings}
-use Rattle.simulation.specs.Rounds.{tables_after}
-use Rattle.simulation.specs.Outcomes.{figures_in, row_in}
+use Rattle.cluster.specs.Rounds.{tables_after}
+use Rattle.played_rounds.specs.Outcomes.{figures_in, row_in}
 
 -- no restart forgets
 abbrev pub NeverForgets : Settings → Type 0

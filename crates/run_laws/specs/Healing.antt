@@ -17,9 +17,9 @@ use Rattle.round_plan.specs.Generations.{generation_upto}
 use Rattle.round_plan.specs.Outages.{is_up, restarts_now, separated}
 use Rattle.round_plan.specs.Plan.{round_list_of}
 use Rattle.round_plan.specs.Writes.{writes_in, count_upto, count_before, own_writes}
-use Rattle.simulation.specs.Rounds.{rules_of, tables_after, records_in}
-use Rattle.simulation.specs.Outcomes.{figures_in, row_in}
-use Rattle.simulation.specs.Soundness.{tables_within}
+use Rattle.cluster.specs.Rounds.{rules_of, tables_after, records_in}
+use Rattle.played_rounds.specs.Outcomes.{figures_in, row_in}
+use Rattle.played_rounds.specs.Soundness.{tables_within}
 
 -- a moment of a run: in a round, after so many of its exchanges
 pub record Moment : Type 0 where

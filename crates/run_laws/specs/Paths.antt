@@ -8,7 +8,7 @@ use Rattle.scenario.specs.Settings.{Settings}
 use Rattle.model.specs.ExchangeLaws.{LosesNothing}
 use Rattle.model.specs.Spreads.{SendsCopy}
 use Rattle.round_plan.specs.Plan.{round_list_of}
-use Rattle.simulation.specs.Rounds.{rules_of, records_in}
+use Rattle.cluster.specs.Rounds.{rules_of, records_in}
 use Rattle.run_laws.specs.Healing.{Moment, IsUpToMoment, IsFreshAt, LeavesCopy, AnswersWhole, table_at_moment}
 
 -- the moment after an exchange

@@ -16,9 +16,9 @@ ghost use Rattle.run_laws.specs.CatchingUp.{AllArePassedOn, IsPassedOn, KeepsCop
 ghost use Rattle.run_laws.specs.Floors.{CutsNothingBefore, CutsNothingUpTo};
 ghost use Rattle.run_laws.specs.Formats.{NeverForgets};
 ghost use Rattle.run_laws.specs.Healing.{Moment, AnswersWhole, AreQuietAfter, HaveWrittenSince, IsAmple, IsFreshAt, IsHealed, IsUpToMoment, LeavesCopy, SendsOwnPartAt, table_at_moment};
-ghost use Rattle.simulation.specs.Outcomes.{figures_in, row_in};
+ghost use Rattle.played_rounds.specs.Outcomes.{figures_in, row_in};
 ghost use Rattle.run_laws.specs.Paths.{HandsOn, IsReached, SendsCopyAt};
-ghost use Rattle.simulation.specs.Rounds.{records_in};
+ghost use Rattle.cluster.specs.Rounds.{records_in};
 ghost use Rattle.run_laws.specs.calls.SmallRings.{ring_of_three, ring_that_loses, having_written, meeting, having_met, having_restarted};
 
 /// The rings keep the limits of scenarios, and cut nothing under any mode. On one of them node 0 restarts and never

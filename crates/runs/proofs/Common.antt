@@ -31,8 +31,8 @@ pub use Rattle.round_plan.specs.Writes.{count_before, own_writes, writes_in, wri
 pub use Rattle.scenario.specs.CheckFault.{IsFaultOfCheck}
 pub use Rattle.scenario.specs.Order.{Says, document_of, first_fault}
 pub use Rattle.scenario.specs.Settings.{IsLawfulScenario, Settings, with_mode}
-pub use Rattle.simulation.specs.Outcomes.{row_in}
-pub use Rattle.simulation.specs.calls.Outcomes.{played_of}
-pub use Rattle.simulation.specs.calls.RoundView.{RoundView}
-pub use Rattle.simulation.specs.calls.Simulation.{IsStepFault, MayWriteAll, PlaysNext, SimView}
+pub use Rattle.played_rounds.specs.Outcomes.{row_in}
+pub use Rattle.played_rounds.specs.calls.Outcomes.{played_of}
+pub use Rattle.played_rounds.specs.calls.RoundView.{RoundView}
+pub use Rattle.cluster.specs.calls.Standing.{MayWriteAll}
 pub use Rattle.version_tables.specs.inner.Histories.{IsWriteUnder}

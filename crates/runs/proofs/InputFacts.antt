@@ -1,5 +1,5 @@
 -- What a source gave up to a pull, and then by that pull; and what reading a scenario comes to.
--- Serves the functions of `comparing`, `inputs`, `rounds` and `runs`.
+-- Serves `check_input`, `read_all`, `write_all`, `write_comparison` and `write_run`.
 use Rattle.runs.proofs.Common.{◌≡◌, ◌≢◌, ◌<◌, ◌≤◌, ◌+◌, ◌++◌, ◌∙◌, ℕ, Bool, true, false, List, Option, None, Some, Result, Ok, Err, IfSome, IfOk, IfErr, inl, inr, length, take, arith, ap, refl, sym, subst, length-append, IsErrAnd, IsSomeAnd, OnOk, length-take-le, take-append-le, append-nil, [], Consumes-all, Consumes-trans, IsAtEnd, Consumes, Fault, OutOfMemory, document_of, first_fault, Says, IsFaultOfCheck, Settings}
 use Rattle.bench_types.specs.declared.sources.Source.{Ghosts as Source}
 use Rattle.runs.specs.Inputs.{Gave, GaveUpTo, IsReadWhole, IsRead, IsInputFault}

@@ -1,19 +1,13 @@
 -- How far the rounds of a scenario have been carried out and written.
 -- Serves the functions of `rounds` and `sizes`, `Comparison` and `Reporting`.
-use Rattle.runs.proofs.Common.{◌≡◌, ℕ, ◌+◌, ◌<◌, ◌≤◌, Result, Ok, Err, inl, inr, refl, sym, ap, ◌∙◌, subst, arith, add-one, false, IsErrAnd, Fault, Table, IsFaultOfWorkers, Settings, RoundView, SimView, PlaysNext, IsStepFault, played_of}
+use Rattle.runs.proofs.Common.{◌≡◌, ℕ, ◌+◌, ◌<◌, ◌≤◌, Result, Ok, Err, inl, inr, refl, sym, ap, ◌∙◌, subst, arith, add-one, IsErrAnd, Fault, Table, IsFaultOfWorkers, Settings, RoundView, played_of}
 use Rattle.runs.specs.Runs.{IsFaultInRounds}
-use Rattle.runs.specs.inner.Rounds.{AreWrittenInTurn, IsFaultInTurn, AnswersRounds, StopsNext, WritesAll, WritesNext}
-
--- where a round is left and none has failed, the fault of a step is that of its workers
-step_fault : {T : Type 0} (workers : ℕ) (sim sim' : SimView T) (fault : Fault) → sim.broken ≡ false → sim.rounds_done < sim.settings.rounds
-    → IsStepFault workers sim sim' fault → IsFaultOfWorkers workers fault
-step_fault workers sim sim' fault unbroken more stop = elim stop [
-  | inl failed ↦ failed.0
-  | inr refused ↦ elim refused.0 [
-    | inl broken ↦ absurd (cc (broken.1, unbroken))
-    | inr finished ↦ absurd (omega (arith, more, finished.2))
-  ]
-]
+use Rattle.std.specs.Prelude.{◌⊎◌}
+use Rattle.bench_types.specs.declared.faults.Fault.TheVariants.{OutOfMemory}
+use Rattle.round_histories.specs.Histories.{HistoriesView}
+use Rattle.cluster.specs.declared.clusters.Cluster.{Cluster}
+use Rattle.cluster.specs.inner.Clusters.{IsAfterRound}
+use Rattle.runs.specs.inner.Rounds.{AreWrittenInTurn, IsFaultInTurn, AnswersRounds}
 
 -- what is written on both sides of a fault in rounds may be told otherwise
 pub fault_told : {s : Settings} {workers : ℕ} {fault : Fault} {Wrote Wrote' Stops Stops' : ℕ → Type 0}
@@ -47,74 +41,40 @@ fault_of_fewer fewer workers fault within found = record {
 }
 
 module _ {O : Type 0} (Wrote : O → O → RoundView → Type 0) (Stops : O → O → RoundView → Fault → Type 0) (s : Settings) (old : O) where
-  -- so many rounds are done and written
-  pub record HaveRun {T : Type 0} (now : O) (sim : SimView T) (rounds : ℕ) : Type 0 where
-    pub settings : sim.settings ≡ s
-    pub unbroken : sim.broken ≡ false
-    pub done : sim.rounds_done ≡ rounds
-    pub written : AreWrittenInTurn Wrote s old now rounds
+  module _ {T K : Type 0} (table : T → Table) (kept : K → HistoriesView) where
+    -- so many rounds are done and written
+    pub record HaveRun (now : O) (cluster : Cluster T K) (rounds : ℕ) : Type 0 where
+      pub after : IsAfterRound table kept s rounds cluster
+      pub written : AreWrittenInTurn Wrote s old now rounds
 
-  module _ {T : Type 0} (table : T → Table) (now new : O) (sim sim' : SimView T) (rounds : ℕ) (so_far : HaveRun now sim rounds) where
-    module _ (round : RoundView) (played : PlaysNext table sim sim' round) where
-      settings_are : sim'.settings ≡ s
-      settings_are = played.settings ∙ so_far.settings
-
-      done_now : sim'.rounds_done ≡ rounds + 1
-      done_now = played.done ∙ ap (λ n. n + 1) so_far.done
-
-      round_is : round ≡ played_of s (rounds + 1)
-      round_is = played.played ∙ (λ i. played_of (settings_are i) (done_now i))
-
-    -- the next one was carried out and written
-    pub one_more : WritesNext table Wrote sim sim' now new → HaveRun new sim' (rounds + 1)
-    one_more next = record {
-      settings = settings_are next.round next.played;
-      unbroken = next.played.still;
-      done = done_now next.round next.played;
-      written = rw add-one
-          (now, so_far.written, subst (Wrote now new) (round_is next.round next.played ∙ ap (played_of s) (add-one rounds)) next.wrote);
+    -- the next one was played and written
+    pub one_more : (now new : O) (cluster next : Cluster T K) (rounds : ℕ) → HaveRun now cluster rounds
+        → IsAfterRound table kept s (rounds + 1) next → Wrote now new (played_of s (rounds + 1)) → HaveRun new next (rounds + 1)
+    one_more now new cluster next rounds so_far after wrote = record {
+      after = after;
+      written = rw add-one (now, so_far.written, subst (Wrote now new) (ap (played_of s) (add-one rounds)) wrote);
     }
 
-    -- or it wasn't, where there is one
-    pub stops_next : (workers : ℕ) (fault : Fault) → rounds < s.rounds → StopsNext table Stops sim sim' now new workers fault
-        → IsFaultInTurn Wrote Stops s old new workers fault
-    stops_next workers fault more stop = record {
-      rounds = rounds;
-      within = more;
-      stops = elim stop [
-        | inl lost ↦
-            let left : sim.rounds_done < sim.settings.rounds = subst (λ (t : Settings). sim.rounds_done < t.rounds) (sym so_far.settings)
-            (omega (arith, more, so_far.done)) in
-            inl (
-              step_fault workers sim sim' fault so_far.unbroken left lost.0,
-              subst (λ n. AreWrittenInTurn Wrote s old n rounds) (sym lost.1) so_far.written,
-            )
-        | inr (round, played, cut) ↦ inr (now, so_far.written, subst (λ r. Stops now new r fault) (round_is round played) cut)
-      ];
-    }
+  -- or it wasn't, where there is one
+  pub stops_next : (now new : O) (rounds workers : ℕ) (fault : Fault) → AreWrittenInTurn Wrote s old now rounds → rounds < s.rounds
+      → ((fault ≡ OutOfMemory) × (new ≡ now)) ⊎ Stops now new (played_of s (rounds + 1)) fault → IsFaultInTurn Wrote Stops s old new workers fault
+  stops_next now new rounds workers fault written more stop = record {
+    rounds = rounds;
+    within = more;
+    stops = elim stop [
+      | inl lost ↦ inl (inl lost.0, subst (λ n. AreWrittenInTurn Wrote s old n rounds) (sym lost.1) written)
+      | inr cut ↦ inr (now, written, cut)
+    ];
+  }
 
   -- or the first one wasn't
   pub stops_at_first : (workers : ℕ) (fault : Fault) → 0 < s.rounds → IsFaultOfWorkers workers fault → IsFaultInTurn Wrote Stops s old old workers fault
   stops_at_first workers fault some of_workers = record { rounds = 0; within = some; stops = inl (of_workers, refl) }
 
-  -- all were
-  pub all_written : {T : Type 0} (now : O) (sim sim' : SimView T) (rounds : ℕ) → sim.settings ≡ s → HaveRun now sim' rounds → s.rounds ≤ rounds
-      → rounds ≤ s.rounds
-      → WritesAll Wrote sim sim' old now
-  all_written now sim sim' rounds begun so_far low high = record {
-    settings = so_far.settings ∙ sym begun;
-    written = subst (λ (t : Settings). AreWrittenInTurn Wrote t old now t.rounds) (sym begun)
-        (subst (AreWrittenInTurn Wrote s old now) (omega (arith, low, high)) so_far.written);
-  }
-
-  -- so the scenario that a simulation was begun with comes back
-  pub answers_all : {T : Type 0} (now : O) (sim sim' : SimView T) (workers : ℕ) (back : Settings) → sim.settings ≡ s
-      → WritesAll Wrote sim sim' old now → back ≡ sim'.settings → AnswersRounds Wrote Stops s old now workers (Ok back)
-  answers_all now sim sim' workers back begun all is = record {
-    same = is ∙ all.settings ∙ begun;
-    written = subst (λ (t : Settings). AreWrittenInTurn Wrote t old now t.rounds) begun all.written;
-    fault = tt;
-  }
+  -- all were, and the scenario comes back
+  pub answers_all : (now : O) (workers : ℕ) (back : Settings) → AreWrittenInTurn Wrote s old now s.rounds → back ≡ s
+      → AnswersRounds Wrote Stops s old now workers (Ok back)
+  answers_all now workers back written is = record { same = is; written = written; fault = tt }
 
   -- what fewer workers answer
   pub answers_of_fewer : (now : O) (fewer workers : ℕ) (answer : Result Settings Fault) → fewer ≤ workers

@@ -10,7 +10,7 @@ use Rattle.bench_types.specs.declared.sources.Source.{Ghosts as Source}
 use Rattle.report.specs.Compare.{compare_header_line, compare_line, compare_lines}
 use Rattle.bench_types.specs.Output.{IsWritten, IsWriteFault}
 use Rattle.scenario.specs.Settings.{Settings, with_mode}
-use Rattle.simulation.specs.Outcomes.{row_in}
+use Rattle.played_rounds.specs.Outcomes.{row_in}
 use Rattle.runs.specs.Inputs.{IsRead, IsInputFault}
 use Rattle.runs.specs.Reports.{rows_upto}
 use Rattle.runs.specs.Runs.{IsFaultAfter, IsFaultInRounds}

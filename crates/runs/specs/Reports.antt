@@ -7,8 +7,8 @@ use Rattle.report.specs.Report.{report_header_line, report_lines}
 use Rattle.report.specs.Trace.{trace_header_line, trace_lines}
 use Rattle.round_plan.specs.Plan.{round_list_of}
 use Rattle.scenario.specs.Settings.{Settings}
-use Rattle.simulation.specs.Rounds.{records_in}
-use Rattle.simulation.specs.Outcomes.{row_in}
+use Rattle.cluster.specs.Rounds.{records_in}
+use Rattle.played_rounds.specs.Outcomes.{row_in}
 
 -- the rows of the first so many rounds
 abbrev pub rows_upto : Settings → ℕ → List Row

@@ -14,7 +14,7 @@ use Rattle.bench_types.specs.Output.{IsWritten, IsWriteFault}
 use Rattle.report.specs.Report.{report_header_line, report_line}
 use Rattle.report.specs.Trace.{trace_header_line}
 use Rattle.scenario.specs.Settings.{Settings}
-use Rattle.simulation.specs.Outcomes.{row_in}
+use Rattle.played_rounds.specs.Outcomes.{row_in}
 use Rattle.runs.specs.Inputs.{IsRead, IsInputFault}
 use Rattle.runs.specs.Reports.{trace_in, report_upto, trace_upto, report_text, trace_text}
 

@@ -1,4 +1,3 @@
-pub mod Starts
 pub mod Writes
 pub mod Rounds
 pub mod Outputs

@@ -8,11 +8,12 @@ ghost use Rattle.model.specs.Runs.{AreWorkers};
 ghost use Rattle.runs.specs.inner.Lines.{AnswersLines};
 
 use crate::outputs::ModeRows;
-use crate::resources::Resources;
 use crate::runs::check_input;
 use crate::sizes::write_rounds;
 use bench_types::{Fault, Mode, Sink, Source};
+use played_rounds::processors_of;
 use report::compare_header;
+use round_histories::{Hands, Resources};
 use scenario::Scenario;
 use std::alloc::Global;
 use std::marker::Brand;
@@ -39,7 +40,14 @@ pub fn compare<H: Threads + Wait + Sync, R: Source, W: Sink>(
     ensures failing_end { IfErr result (TellsOfFailing W.Sink writer.old writer.new) }
 {
     let scenario = check_input(alloc, reader)?;
-    let resources = Resources { rt, alloc, workers };
+    let resources = Resources {
+        rt,
+        alloc,
+        hands: Hands {
+            workers,
+            processors: processors_of(rt),
+        },
+    };
     write_comparison(&resources, scenario, writer)
 }
 
@@ -51,7 +59,7 @@ fn write_comparison<H: Threads + Wait + Sync, W: Sink>(
     ensures written { OnOk result
         (IsWritten W.Sink writer.old writer.new (comparison_text scenario)) }
     ensures fault { IfErr result
-        (IsComparingFault W.Sink writer.old writer.new scenario resources.now.workers) }
+        (IsComparingFault W.Sink writer.old writer.new scenario resources.now.hands.workers) }
 {
     compare_header(resources.alloc, writer, scenario.format())?;
     for mode in Mode::ALL {
@@ -66,7 +74,7 @@ fn write_mode<H: Threads + Wait + Sync, W: Sink>(
     scenario: Scenario,
     writer: &mut W,
 ) -> Result<Scenario, Fault>
-    ensures { AnswersLines W.Sink writer.old writer.new scenario resources.now.workers result }
+    ensures { AnswersLines W.Sink writer.old writer.new scenario resources.now.hands.workers result }
 {
     let mut output = ModeRows {
         alloc: resources.alloc,

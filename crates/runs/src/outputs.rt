@@ -4,8 +4,8 @@ ghost use Rattle.report.specs.calls.Columns.{IsFormat};
 
 use crate::rounds::RoundWriter;
 use bench_types::{Fault, Mode, Sink};
+use played_rounds::Round;
 use report::{write_compare_row, write_report_row, write_trace_rows};
-use simulation::Round;
 use std::alloc::Global;
 
 /// A report and a trace behind their headers.

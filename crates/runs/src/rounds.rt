@@ -1,16 +1,17 @@
 //! All rounds of a scenario, each carried out and then written.
 
-ghost use Rattle.std.specs.Prelude.{◌≡◌, OnOk, IfErr};
-ghost use Rattle.simulation.specs.calls.Simulation.{MayWriteAll};
-ghost use Rattle.runs.specs.inner.Starts.{IsAtStart};
-ghost use Rattle.runs.specs.inner.Rounds.{AnswersRounds, IsFaultInTurn, StopsNext, WritesAll, WritesNext};
+ghost use Rattle.std.specs.Prelude.{◌≡◌, OnOk, IfOk, IfErr};
+ghost use Rattle.cluster.specs.calls.Standing.{MayWriteAll};
+ghost use Rattle.cluster.specs.inner.Clusters.{IsAfterRound};
+ghost use Rattle.played_rounds.specs.inner.Playing.{MayPlay};
+ghost use Rattle.runs.specs.inner.Rounds.{AnswersRounds, AreWrittenInTurn, IsFaultInTurn, StopsNext, WritesNext};
 
-use crate::resources::Resources;
 use bench_types::Fault;
+use cluster::Cluster;
 use model::MemoryTable;
-use round_histories::RoundHistories;
+use played_rounds::{NextRound, Round};
+use round_histories::{Hands, Resources, RoundHistories};
 use scenario::Scenario;
-use simulation::{Round, Sim};
 use std::sync::Wait;
 use std::thread::Threads;
 use workers::{FreeGate, Posts};
@@ -19,7 +20,7 @@ use workers::{FreeGate, Posts};
 pub(crate) trait RoundWriter {
     ghost use Rattle.std.specs.Prelude.{OnOk, IfErr};
     ghost use Rattle.bench_types.specs.declared.faults.Fault.{Fault};
-    ghost use Rattle.simulation.specs.calls.RoundView.{RoundView};
+    ghost use Rattle.played_rounds.specs.calls.RoundView.{RoundView};
 
     // What the writer is once a round was written, and where writing it came to a fault.
     ghost wrote: { Self → Self → RoundView → Type 0 };
@@ -34,7 +35,7 @@ pub(crate) trait RoundWriter {
 
 /// Carries out each round of a scenario over tables and histories of one kind, and writes it. The scenario comes back.
 /// The threads of the workers live for all rounds. They are started before the tables are made, so that a scenario is
-/// lent to them and no simulation.
+/// lent to them and no cluster.
 pub(crate) fn write_over<
     'b,
     T: MemoryTable + Send + Sync,
@@ -43,12 +44,13 @@ pub(crate) fn write_over<
     O: RoundWriter,
 >(resources: &Resources<H>, scenario: Scenario, output: &'b mut O) -> Result<Scenario, Fault>
     requires may_write { MayWriteAll K.may_write scenario }
-    ensures { AnswersRounds O.wrote O.stops scenario output.old output.new resources.now.workers result }
+    ensures { AnswersRounds O.wrote O.stops scenario output.old output.new resources.now.hands.workers result }
 {
     // (there is a first round, for which memory or a thread may be lacking)
     let _rounds = scenario.rounds();
-    let Resources { rt, alloc, workers } = *resources;
-    let posts: Posts<T, K, FreeGate, K::Job> = Posts::new(alloc, workers)?;
+    let Resources { rt, alloc, hands } = *resources;
+    let processors = hands.processors;
+    let posts: Posts<T, K, FreeGate, K::Job> = Posts::new(alloc, hands.workers)?;
     let by = &posts;
     let lent = Beside {
         held: scenario,
@@ -70,7 +72,10 @@ pub(crate) fn write_over<
             let resources = Resources {
                 rt,
                 alloc,
-                workers: by.workers(),
+                hands: Hands {
+                    workers: by.workers(),
+                    processors,
+                },
             };
             let held = write_by(&resources, by, scenario, output);
             Beside { held, output }
@@ -128,17 +133,14 @@ fn write_by<
 {
     // (there is a first round, for which memory may be lacking)
     let _rounds = scenario.rounds();
-    let Resources { rt, alloc, workers } = *resources;
-    match Sim::of_by(rt, alloc, workers, scenario) {
-        Ok(mut sim) => {
-            let written = write_all(rt, posts, &mut sim, output);
-            // (by a call of its own crate, so that letting a simulation go isn't proved here once more)
-            let scenario = sim.into_scenario();
-            written?;
-            Ok(scenario)
-        }
-        Err((fault, _)) => Err(fault),
-    }
+    let cluster = Cluster::new_by(
+        resources.rt,
+        resources.alloc,
+        &scenario,
+        resources.hands.workers,
+    )?;
+    write_all(resources, posts, cluster, &scenario, output)?;
+    Ok(scenario)
 }
 
 fn write_all<
@@ -147,36 +149,53 @@ fn write_all<
     H: Threads + Wait + Sync,
     O: RoundWriter,
 >(
-    rt: &H,
+    resources: &Resources<H>,
     posts: &Posts<T, K, FreeGate, K::Job>,
-    sim: &mut Sim<T, K>,
+    mut cluster: Cluster<T, K>,
+    scenario: &Scenario,
     output: &mut O,
 ) -> Result<(), Fault>
-    requires { IsAtStart sim.old }
-    ensures written { OnOk result (WritesAll O.wrote sim.old sim.new output.old output.new) }
-    ensures fault { IfErr result (IsFaultInTurn O.wrote O.stops sim.old.settings output.old output.new posts.now) }
+    requires may_write { MayWriteAll K.may_write scenario.now }
+    requires opened { IsAfterRound T.table K.kept scenario.now 0 cluster }
+    ensures written { OnOk result (AreWrittenInTurn O.wrote scenario.now output.old output.new scenario.now.rounds) }
+    ensures fault { IfErr result (IsFaultInTurn O.wrote O.stops scenario.now output.old output.new posts.now) }
 {
-    for _ in 0..sim.rounds() {
-        write_next(rt, posts, sim, output)?;
+    for done in 0..scenario.rounds() {
+        let next = NextRound {
+            cluster,
+            scenario,
+            round: done + 1,
+            gate: FreeGate,
+        };
+        cluster = write_next(resources, posts, next, output)?;
     }
+    cluster.end();
     Ok(())
 }
 
-// Carries out the next round, and writes it.
+// Plays the next round, and writes it.
 fn write_next<
     T: MemoryTable + Send + Sync,
     K: RoundHistories<T>,
     H: Threads + Wait + Sync,
     O: RoundWriter,
 >(
-    rt: &H,
+    resources: &Resources<H>,
     posts: &Posts<T, K, FreeGate, K::Job>,
-    sim: &mut Sim<T, K>,
+    next: NextRound<T, K, FreeGate>,
     output: &mut O,
-) -> Result<(), Fault>
-    ensures written { OnOk result (WritesNext T.table O.wrote sim.old sim.new output.old output.new) }
-    ensures fault { IfErr result (StopsNext T.table O.stops sim.old sim.new output.old output.new posts.now) }
+) -> Result<Cluster<T, K>, Fault>
+    requires { MayPlay T.table K.kept K.may_write next }
+    ensures written { IfOk result (WritesNext T.table K.kept O.wrote next.entry output.old output.new) }
+    ensures fault { IfErr result (StopsNext O.stops next.entry output.old output.new) }
 {
-    let round = sim.step_by(rt, posts, FreeGate)?;
-    output.write(&round)
+    let (cluster, round) = next.play(resources, posts)?;
+    match output.write(&round) {
+        Ok(()) => Ok(cluster),
+        Err(fault) => {
+            // (by a call of its own crate, so that letting a cluster go isn't proved here once more)
+            cluster.end();
+            Err(fault)
+        }
+    }
 }

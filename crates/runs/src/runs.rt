@@ -7,10 +7,11 @@ ghost use Rattle.model.specs.Runs.{AreWorkers};
 
 use crate::inputs::read_all;
 use crate::outputs::ReportAndTrace;
-use crate::resources::Resources;
 use crate::sizes::write_rounds;
 use bench_types::{Fault, Sink, Source};
+use played_rounds::processors_of;
 use report::{report_header, trace_header};
+use round_histories::{Hands, Resources};
 use scenario::{Scenario, read};
 use std::alloc::Global;
 use std::marker::Brand;
@@ -46,7 +47,14 @@ pub fn run<H: Threads + Wait + Sync, R: Source, W: Sink, X: Sink>(
         × TellsOfFailing X.Sink trace.old trace.new fault) }
 {
     let scenario = check_input(alloc, reader)?;
-    let resources = Resources { rt, alloc, workers };
+    let resources = Resources {
+        rt,
+        alloc,
+        hands: Hands {
+            workers,
+            processors: processors_of(rt),
+        },
+    };
     write_run(&resources, scenario, writer, trace)
 }
 
@@ -70,7 +78,7 @@ fn write_run<H: Threads + Wait + Sync, W: Sink, X: Sink>(
     ensures written { OnOk result
         (AreWritten W.Sink writer.old writer.new X.Sink trace.old trace.new scenario) }
     ensures fault { IfErr result (IsWritingFault W.Sink writer.old writer.new X.Sink trace.old trace.new scenario
-        resources.now.workers) }
+        resources.now.hands.workers) }
 {
     write_headers(resources, &scenario, writer, trace)?;
     let mut output = ReportAndTrace {
@@ -92,7 +100,7 @@ fn write_headers<H, W: Sink, X: Sink>(
     ensures written { OnOk result
         (AreWrittenUpto W.Sink writer.old writer.new X.Sink trace.old trace.new scenario.now 0) }
     ensures fault { IfErr result (IsWritingFault W.Sink writer.old writer.new X.Sink trace.old trace.new scenario.now
-        resources.now.workers) }
+        resources.now.hands.workers) }
 {
     report_header(resources.alloc, writer, scenario.format())?;
     trace_header(resources.alloc, trace)

@@ -6,9 +6,9 @@ ghost use Rattle.model.specs.Runs.{AreWorkers};
 ghost use Rattle.runs.specs.inner.Rounds.{AnswersRounds, workers_worth};
 ghost use Rattle.runs.specs.inner.Writes.{AreWrittenIn, HasWritesBelow};
 
-use crate::resources::Resources;
 use crate::rounds::{RoundWriter, write_over};
 use bench_types::Fault;
+use round_histories::{Hands, Resources};
 use round_plan::writes_in;
 use scenario::Scenario;
 use std::sync::Wait;
@@ -52,13 +52,16 @@ pub(crate) fn write_rounds<L: Written + Send + Sync, H: Threads + Wait + Sync, O
     output: &mut O,
 ) -> Result<Scenario, Fault>
     requires { AreWrittenIn L.lists scenario }
-    ensures { AnswersRounds O.wrote O.stops scenario output.old output.new resources.now.workers result }
+    ensures { AnswersRounds O.wrote O.stops scenario output.old output.new resources.now.hands.workers result }
 {
-    let Resources { rt, alloc, workers } = *resources;
+    let Resources { rt, alloc, hands } = *resources;
     let resources = Resources {
         rt,
         alloc,
-        workers: workers_worth(&scenario, workers),
+        hands: Hands {
+            workers: workers_worth(&scenario, hands.workers),
+            processors: hands.processors,
+        },
     };
     write_in_few_bits::<L, H, O>(&resources, scenario, output)
 }
@@ -70,7 +73,7 @@ fn write_in_few_bits<L: Written + Send + Sync, H: Threads + Wait + Sync, O: Roun
     output: &mut O,
 ) -> Result<Scenario, Fault>
     requires { AreWrittenIn L.lists scenario }
-    ensures { AnswersRounds O.wrote O.stops scenario output.old output.new resources.now.workers result }
+    ensures { AnswersRounds O.wrote O.stops scenario output.old output.new resources.now.hands.workers result }
 {
     let most = most_in_a_run(&scenario);
     if most < u8::MAX as u32 {
@@ -91,7 +94,7 @@ fn write_in<
 >(resources: &Resources<H>, scenario: Scenario, output: &mut O) -> Result<Scenario, Fault>
     requires are { AreWrittenIn L.lists scenario }
     requires enough { HasWritesBelow N.most scenario }
-    ensures { AnswersRounds O.wrote O.stops scenario output.old output.new resources.now.workers result }
+    ensures { AnswersRounds O.wrote O.stops scenario output.old output.new resources.now.hands.workers result }
 {
     write_over::<VersionTable<N, L>, Histories<N, L>, H, O>(resources, scenario, output)
 }

@@ -1,60 +1,11 @@
 -- The names of other libraries that these proofs cite, passed on from one place. Declares nothing.
--- Serves most of the crate.
-pub use Rattle.std.proofs.Common.{All, Bool, Err, IfErr, IfOk, List, Ok, Option, Result, Some, [], add-one, ap, append_assoc, arith, false, get_or, if◌then◌else◌, inl, inr, length, length-append, map, refl, rules, set, subst, suc, sym, take, true, zero, ℕ, ◌*◌, ◌++◌, ◌+◌, ◌-◌, ◌<◌, ◌^◌, ◌∙◌, ◌∷◌, ◌≡◌, ◌≢◌, ◌≤◌}
-pub use Rattle.std.proofs.Math.ListN.{get_or-append}
-pub use Rattle.std.proofs.Math.Seq.{take-length}
-pub use Rattle.std.proofs.lemmas.Bool.{both_ways, cases_eq, cases_lt}
-pub use Rattle.std.proofs.lemmas.List.{append-nil, ext_get_or, get_or-append_right, get_or-map, get_or_default, get_or_past, get_or_push, length-map, length-set, length-take-le, map-append, map-set, map_more, take_more}
-pub use Rattle.std.proofs.lemmas.List.Elements.{All-append, All-nil, All-push, All-weaker}
-pub use Rattle.std.proofs.lemmas.List.FromFn.{get_or-map-range_with_len, length-map-range_with_len}
-pub use Rattle.std.proofs.lemmas.List.Sums.{fold-append}
-pub use Rattle.std.proofs.lemmas.Result.{IfOk-at_ok, IfOk-weaker, on_ok_weaker}
-pub use Rattle.std.specs.List.{range_with_len}
-pub use Rattle.std.specs.Prelude.{Contains, IfSome, OnOk, Vec, is_none}
-pub use Rattle.std.specs.declared.alloc.Global.{Global}
-pub use Rattle.bench_types.specs.calls.Budget.{IsLawfulBudget}
-pub use Rattle.bench_types.specs.declared.exchanges.Budget.TheVariants.{Bytes, Entries}
+-- Serves the functions of `apart` and `sims` and `Stepping`.
+pub use Rattle.std.proofs.Common.{Err, IfErr, IfOk, Ok, Option, Result, Some, ap, arith, false, inl, inr, map, refl, subst, sym, ℕ, ◌+◌, ◌-◌, ◌<◌, ◌∙◌, ◌≡◌}
+pub use Rattle.std.proofs.lemmas.Result.{IfOk-at_ok, IfOk-weaker}
+pub use Rattle.std.specs.Prelude.{IfSome, is_none}
 pub use Rattle.bench_types.specs.declared.faults.Fault.{Fault}
-pub use Rattle.bench_types.specs.declared.rows.Figures.{Figures}
-pub use Rattle.model.proofs.Common.{AreNextAfter, Budget, Entry, Exchange, IsNextAfter, IsPlanned, LEAST_KEYS, MOST_KEYS, MOST_NODES, Mark, Record, Rules, next_version}
-pub use Rattle.model.proofs.BeginLaws.{IsBegun, begun_copies, begun_forget, begun_no_gap, begun_restart, begun_same, begun_then, begun_writes, counted_write, counted_writes, empty_copies, empty_no_gap, generation-written, written_rises}
-pub use Rattle.model.proofs.ExchangeLaws.{marks_stay, marks_then}
-pub use Rattle.model.proofs.FoldLaws.{before_copies, before_keeps_own, before_no_gap, before_rises, fold_counts_records, fold_counts_tables, fold_keeps_own, fold_proper}
-pub use Rattle.model.proofs.MarkLaws.{greatest_mark-empty_table, greatest_mark-without_all, greatest_mark-without_others_own}
-pub use Rattle.model.proofs.OwnParts.{born-later, own_part-empty, own_part-written}
-pub use Rattle.model.proofs.Owners.{length-lists_in, list_read, written_more}
-pub use Rattle.model.proofs.ProperLaws.{proper-empty_table, proper-with_own_write, proper-without_all, proper-without_others}
-pub use Rattle.model.proofs.TableLaws.{entry_at-empty_table, entry_at-without_all, entry_at-without_others_own}
-pub use Rattle.model.proofs.Tables.{cluster_of, same_tables, still_table_of, table_of_node-made, table_of_node-set_other, table_of_node-set_same}
-pub use Rattle.model.specs.Clusters.{NoMarksFall}
-pub use Rattle.model.specs.Copies.{IsLastOf}
-pub use Rattle.model.specs.ExchangeLaws.{NoMarkFalls}
-pub use Rattle.model.specs.Figures.{figures_of}
-pub use Rattle.model.specs.Folds.{Folded, fold_of, tables_before}
-pub use Rattle.model.specs.RoundLists.{RoundListView}
+pub use Rattle.model.proofs.Common.{Entry}
 pub use Rattle.model.specs.Runs.{IsFaultOfWorkers}
-pub use Rattle.model.specs.Table.{IsProper, Table, empty_table, entry_at, greatest_mark, greatest_version, with_own_write, with_own_writes, without_all, without_others}
-pub use Rattle.model.specs.Tables.{AreProper, AreTablesInOrder, HoldsOfEach, table_of_node}
-pub use Rattle.model.specs.Writes.{write_of_entry}
-pub use Rattle.model.specs.calls.Numbers.{write_from, write_numbered}
-pub use Rattle.model.specs.calls.OwnParts.{OwnPartIsLastWrites}
-pub use Rattle.model.specs.calls.OwnerListView.{ListBecomes, OwnerListView, all_writes, begun_generation, entries_of, list_of_owner, lists_in, next_entry, no_writes, with_write, written}
-pub use Rattle.model.specs.calls.RoundLists.{IsRoundPlan}
-pub use Rattle.model.specs.calls.Tables.{IsCluster}
-pub use Rattle.model.specs.calls.Writes.{AreBornBy}
-pub use Rattle.model.specs.declared.writes.Write.{Write}
-pub use Rattle.model.specs.inner.Owns.{KeepOwnParts, KeepsOwn}
-pub use Rattle.model.specs.inner.Writes.{next_write}
-pub use Rattle.round_plan.proofs.Generations.{generation_upto-next, generation_upto-same, generation_upto_le, restarts-any, restarts-forgets}
-pub use Rattle.round_plan.proofs.Growth.{born-own_writes, count_before-grown, count_upto-grown, keys-own_writes, length-writes_before, length_unless, next-own_writes, writes_before-grown, writes_upto-grown, written_upto-grown}
-pub use Rattle.round_plan.proofs.Planned.{planned_list}
-pub use Rattle.round_plan.specs.Generations.{generation_upto}
-pub use Rattle.round_plan.specs.Outages.{forgets_now, restarts_now}
-pub use Rattle.round_plan.specs.Plan.{round_list_of}
-pub use Rattle.round_plan.specs.Writes.{count_before, count_upto, own_writes, writes_upto, written_upto}
-pub use Rattle.round_plan.specs.calls.Outages.{any_restart_now}
-pub use Rattle.round_plan.specs.calls.Words.{RunWordsView, run_words_of}
-pub use Rattle.round_plan.specs.calls.Writes.{AreWritesOf, born_in, writes_before}
-pub use Rattle.round_plan.specs.declared.owners.OwnWrite.{OwnWrite}
-pub use Rattle.round_histories.specs.Histories.{AddsWrite, AreWrittenBy, BirthsRise, HistoriesView, MayWrite, StandsAmong, StandsBeside, StaysBesideLists, own_list}
-pub use Rattle.scenario.specs.Settings.{IsBudgetOf, IsLawfulScenario, Settings}
+pub use Rattle.model.specs.Table.{Table}
+pub use Rattle.round_histories.specs.Histories.{HistoriesView}
+pub use Rattle.scenario.specs.Settings.{IsLawfulScenario, Settings}

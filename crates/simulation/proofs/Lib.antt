@@ -1,10 +1,2 @@
-pub mod Written
-pub mod Writing
-pub mod Ahead
-pub mod Begun
-pub mod Opening
-pub mod Standing
-pub mod Soundness
 pub mod Stepping
-pub mod Playing
 pub mod Common

@@ -1,60 +1,21 @@
 -- A step that carries out the next round.
--- Serves `Sim::step`, `Sim::step_by`, `Sim::take_out` and `Playing`.
-use Rattle.simulation.proofs.Common.{Err, Fault, IfErr, IfOk, IsFaultOfWorkers, Ok, Result, inl, ◌≡◌, ℕ, ◌<◌, ◌≤◌, List, [], length, map, get_or, sym, ◌∙◌, arith, suc, ◌+◌, ◌-◌, false, Option, Some, refl, ap, subst, ext_get_or, get_or-map-range_with_len, length-map-range_with_len, Table, Settings, IsLawfulScenario, HistoriesView, OwnerListView, no_writes, lists_in, write_of_entry, length-lists_in, list_read, figures_of, is_none, IfSome, Folded, Entry, Record, round_list_of}
+-- Serves `Sim::step`, `Sim::step_by` and `Sim::take_out`.
+use Rattle.simulation.proofs.Common.{Err, Fault, IfErr, IfOk, IsFaultOfWorkers, Ok, Result, inl, ◌≡◌, ℕ, ◌<◌, map, sym, ◌∙◌, arith, ◌+◌, ◌-◌, false, Option, Some, refl, ap, subst, Table, Settings, IsLawfulScenario, HistoriesView, is_none, IfSome, Entry}
 use Rattle.std.specs.Prelude.{IsOkUnless}
 use Rattle.bench_types.specs.declared.faults.Fault.TheVariants.{OutOfMemory}
-use Rattle.simulation.specs.Rounds.{tables_after, round_of, records_in}
-use Rattle.simulation.specs.Lists.{list_after, lists_after}
-use Rattle.simulation.specs.Outcomes.{figures_in}
-use Rattle.simulation.specs.calls.Outcomes.{played_with}
-use Rattle.simulation.specs.calls.Standing.{StandAfterRound}
-use Rattle.simulation.specs.declared.clusters.Cluster.{Cluster}
-use Rattle.simulation.specs.calls.RoundView.{RoundView}
-use Rattle.simulation.specs.Soundness.{AreSound, OnlyRestartsLowerMarks}
-use Rattle.simulation.specs.inner.Playing.{HasTakenOut, IsBefore, IsPlayed, IsPutBack}
-use Rattle.simulation.specs.inner.Insides.{IsInside, IsAfterRound, simulation_of, tables_held, lists_held}
-use Rattle.simulation.specs.inner.Plans.{IsDrawnAfter}
-use Rattle.simulation.specs.inner.Steps.{HaveEnded}
+use Rattle.cluster.specs.Rounds.{tables_after}
+use Rattle.cluster.specs.calls.Standing.{StandAfterRound}
+use Rattle.cluster.specs.declared.clusters.Cluster.{Cluster}
+use Rattle.cluster.specs.inner.Clusters.{IsAfterRound, IsBefore}
+use Rattle.cluster.specs.inner.Plans.{IsDrawnAfter}
+use Rattle.cluster.specs.inner.Steps.{HaveEnded}
+use Rattle.played_rounds.specs.calls.RoundView.{RoundView}
+use Rattle.played_rounds.specs.Soundness.{AreSound, OnlyRestartsLowerMarks}
+use Rattle.played_rounds.specs.inner.Playing.{IsPlayed}
+use Rattle.played_rounds.proofs.Soundness.{sound_run, round_rises}
+use Rattle.simulation.specs.inner.Insides.{IsInside, simulation_of, tables_held, lists_held}
+use Rattle.simulation.specs.inner.Stepping.{HasTakenOut, IsPutBack}
 use Rattle.simulation.specs.calls.Simulation.{IsStepFault, PlaysNext, SimView}
-use Rattle.simulation.proofs.Soundness.{sound_run, round_rises}
-
--- the lists are those of the definition
--- The figures of a simulation's tables and lists are those of the definition.
-lists_are : (s : Settings) (round : ℕ) (ts : List Table) (lists : List OwnerListView) → StandAfterRound s round ts lists → lists_in lists ≡ lists_after s round
-lists_are s round ts lists standing =
-    ext_get_or [] (lists_in lists) (lists_after s round) (length-lists_in lists ∙ standing.list_count ∙ sym there) at_each
-  where
-    there : length (lists_after s round) ≡ s.nodes
-    there = length-map-range_with_len (list_after s round) 0 s.nodes
-
-    at_each : (n : ℕ) → n < length (lists_in lists) → get_or (lists_in lists) n [] ≡ get_or (lists_after s round) n []
-    at_each n lt =
-        let below : n < s.nodes = omega (arith, lt, length-lists_in lists, standing.list_count) in
-        list_read lists n no_writes [] (omega (arith, lt, length-lists_in lists)) ∙ ap (map write_of_entry) (standing.owners n below).writes ∙ sym
-        (get_or-map-range_with_len (list_after s round) 0 s.nodes n n [] below (omega arith))
-
-figures_are : (s : Settings) (round : ℕ) (ts : List Table) (lists : List OwnerListView) → StandAfterRound s round ts lists → ts ≡ tables_after s round
-    → figures_of round ts (lists_in lists) ≡ figures_in s round
-figures_are s round ts lists standing is = λ i. figures_of round (is i) (lists_are s round ts lists standing i)
-
-unfolded : (s : Settings) (done : ℕ) → tables_after s (suc done) ≡ (round_of s (suc done) (tables_after s done)).tables
-unfolding tables_after
-unfolded s done = refl
-
-pub tables_after-more : (s : Settings) (done : ℕ) → tables_after s (done + 1) ≡ (round_of s (done + 1) (tables_after s done)).tables
-tables_after-more s done =
-    let next : done + 1 ≡ suc done = omega arith in
-    ap (tables_after s) next ∙ unfolded s done ∙ ap (λ n. (round_of s n (tables_after s done)).tables) (sym next)
-
--- the tables that a round leaves
-pub left_after : (s : Settings) (round : ℕ) (new : List Table) (records : List Record) → 1 ≤ round
-    → round_of s round (tables_after s (round - 1)) ≡ record { tables = new; records = records } → new ≡ tables_after s round
-left_after s round new records first round_was =
-    let next : round - 1 + 1 ≡ round = omega (arith, first) in
-    sym (ap (λ (f : Folded). f.tables) round_was)
-    ∙ (λ i. (round_of s (sym next i) (tables_after s (round - 1))).tables)
-    ∙ sym (tables_after-more s (round - 1))
-    ∙ ap (tables_after s) next
 
 -- what a round asks of the cluster that it begins with
 pub after_before : {T K : Type 0} (table : T → Table) (kept : K → HistoriesView) (May : ℕ → ℕ → Entry → Type 0) (s : Settings)
@@ -89,8 +50,7 @@ step_played table kept May old out new c d round taken played is = subst (λ v. 
   kept = subst (λ ts. OnlyRestartsLowerMarks s (done + 1) ts (map table d.tables.items)) (sym before)
       (subst (OnlyRestartsLowerMarks s (done + 1) (tables_after s done)) (sym played.after.tables)
       (round_rises s lawful.nodes.0 lawful.nodes.1 lawful.keys.0 lawful.keys.1 done));
-  played = played.played ∙ ap (played_with (done + 1) (round_list_of s (done + 1)) (records_in s (done + 1)))
-      (figures_are s (done + 1) (map table d.tables.items) (kept d.histories).lists played.after.standing played.after.tables);
+  played = played.played;
 })
   where
     s : Settings

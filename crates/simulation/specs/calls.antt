@@ -1,4 +1,1 @@
-pub mod Outcomes
-pub mod RoundView
 pub mod Simulation
-pub mod Standing

@@ -1,5 +1,2 @@
 pub mod Insides
-pub mod Steps
-pub mod InMemory
-pub mod Plans
-pub mod Playing
+pub mod Stepping

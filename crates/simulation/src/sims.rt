@@ -3,16 +3,17 @@
 ghost use Rattle.std.specs.Prelude.{◌≡◌, ◌+◌, ◌<◌, ◌≤◌, true, false, [], map, Some, IfOk, IfErr, IsOkUnless};
 ghost use Rattle.bench_types.specs.declared.faults.Fault.TheVariants.{OutOfMemory};
 ghost use Rattle.model.specs.Runs.{AreWorkers};
-ghost use Rattle.simulation.specs.Rounds.{opening_tables};
-ghost use Rattle.simulation.specs.inner.Insides.{IsAfterRound};
-ghost use Rattle.simulation.specs.inner.Playing.{HasTakenOut, IsPutBack};
-ghost use Rattle.simulation.specs.calls.Simulation.{AreTablesAfter, MayWriteAll, PlaysNext, IsRefusedBy, IsStepFault};
+ghost use Rattle.cluster.specs.Rounds.{opening_tables};
+ghost use Rattle.cluster.specs.calls.Standing.{MayWriteAll};
+ghost use Rattle.cluster.specs.inner.Clusters.{IsAfterRound};
+ghost use Rattle.simulation.specs.inner.Stepping.{HasTakenOut, IsPutBack};
+ghost use Rattle.simulation.specs.calls.Simulation.{AreTablesAfter, PlaysNext, IsRefusedBy, IsStepFault};
 
-use crate::clusters::{Cluster, NextRound};
-use crate::processors::processors_of;
-use crate::rounds::Round;
+use crate::apart::play_apart;
 use bench_types::Fault;
+use cluster::Cluster;
 use model::MemoryTable;
+use played_rounds::{NextRound, Round, processors_of};
 use round_histories::{Hands, Resources, RoundHistories, TakesAll};
 use scenario::Scenario;
 use std::alloc::Global;
@@ -161,7 +162,10 @@ impl<T: MemoryTable + Send + Sync, K: RoundHistories<T>> Sim<T, K> {
         ensures same { self.new ≡ self.old }
         ensures workers { result.hands.workers ≡ workers }
     {
-        let processors = processors_of(rt, self.processors);
+        let processors = match self.processors {
+            Some(processors) => processors,
+            None => processors_of(rt),
+        };
         self.processors = Some(processors);
         Resources {
             rt,
@@ -269,7 +273,7 @@ impl<T: MemoryTable + Send + Sync, K: RoundHistories<T> + Send> Sim<T, K> {
             round: self.rounds_done + 1,
             gate,
         };
-        let played = next.play_apart(&resources);
+        let played = play_apart(next, &resources);
         self.put_back(played)
     }
 }

@@ -8,7 +8,7 @@ use Rattle.report.specs.Report.{report_line}
 use Rattle.report.specs.Trace.{trace_lines}
 use Rattle.runs.specs.declared.outputs.ModeRows.{ModeRows}
 use Rattle.runs.specs.declared.outputs.ReportAndTrace.{ReportAndTrace}
-use Rattle.simulation.specs.calls.RoundView.{RoundView}
+use Rattle.played_rounds.specs.calls.RoundView.{RoundView}
 
 -- the lines of a round in the trace
 abbrev pub lines_of : RoundView → List ℕ

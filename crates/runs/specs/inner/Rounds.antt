@@ -3,12 +3,16 @@
 -- Source: this project.
 use Rattle.std.specs.Prelude.{◌≡◌, ℕ, zero, suc, ◌+◌, ◌*◌, ◌⊎◌, Result, OnOk, IfOk, IfErr, nat_lt, if◌then◌else◌}
 use Rattle.bench_types.specs.declared.faults.Fault.{Fault}
+use Rattle.bench_types.specs.declared.faults.Fault.TheVariants.{OutOfMemory}
 use Rattle.model.specs.Table.{Table}
+use Rattle.round_histories.specs.Histories.{HistoriesView}
+use Rattle.cluster.specs.declared.clusters.Cluster.{Cluster}
+use Rattle.cluster.specs.inner.Clusters.{IsAfterRound}
 use Rattle.runs.specs.Runs.{IsFaultInRounds}
 use Rattle.scenario.specs.Settings.{Settings}
-use Rattle.simulation.specs.calls.Outcomes.{played_of}
-use Rattle.simulation.specs.calls.RoundView.{RoundView}
-use Rattle.simulation.specs.calls.Simulation.{SimView, PlaysNext, IsStepFault}
+use Rattle.played_rounds.specs.calls.Outcomes.{played_of}
+use Rattle.played_rounds.specs.calls.RoundView.{RoundView}
+use Rattle.played_rounds.specs.declared.playing.NextRound.{NextRound}
 
 -- of the workers that are asked for, one where all tables together have fewer numbers than so many, else all
 abbrev pub workers_worth : Settings → ℕ → ℕ → ℕ
@@ -37,20 +41,13 @@ module _ {O : Type 0} (Wrote : O → O → RoundView → Type 0) (Stops : O → 
     pub written : OnOk answer (AreWrittenInTurn Wrote s old new s.rounds)
     pub fault : IfErr answer (IsFaultInTurn workers)
 
--- one round
-module _ {T O : Type 0} (table : T → Table) where
-  -- the next one was carried out and written
-  pub record WritesNext (Wrote : O → O → RoundView → Type 0) (sim sim' : SimView T) (old new : O) : Type 0 where
-    pub round : RoundView
-    pub played : PlaysNext table sim sim' round
-    pub wrote : Wrote old new round
+-- the next round was played, and written
+pub record WritesNext {T K G O : Type 0} (table : T → Table) (kept : K → HistoriesView) (Wrote : O → O → RoundView → Type 0)
+    (next : NextRound T K G) (old new : O) (cluster : Cluster T K) : Type 0 where
+  pub after : IsAfterRound table kept next.scenario.now next.round cluster
+  pub wrote : Wrote old new (played_of next.scenario.now next.round)
 
-  -- it wasn't carried out by so many workers, or writing it came to this fault
-  abbrev pub StopsNext : (O → O → RoundView → Fault → Type 0) → SimView T → SimView T → O → O → ℕ → Fault → Type 0
-  StopsNext Stops sim sim' old new workers fault = (IsStepFault workers sim sim' fault × (new ≡ old))
-      ⊎ ((round : RoundView) × PlaysNext table sim sim' round × Stops old new round fault)
-
--- all rounds were carried out and written, by a simulation that had carried out none
-pub record WritesAll {T O : Type 0} (Wrote : O → O → RoundView → Type 0) (sim sim' : SimView T) (old new : O) : Type 0 where
-  pub settings : sim'.settings ≡ sim.settings
-  pub written : AreWrittenInTurn Wrote sim.settings old new sim.settings.rounds
+-- memory was lacking for it, or writing it came to this fault
+abbrev pub StopsNext : {T K G O : Type 0} → (O → O → RoundView → Fault → Type 0) → NextRound T K G → O → O → Fault → Type 0
+StopsNext Stops next old new fault =
+    ((fault ≡ OutOfMemory) × (new ≡ old)) ⊎ Stops old new (played_of next.scenario.now next.round) fault

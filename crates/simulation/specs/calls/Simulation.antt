@@ -1,20 +1,17 @@
 -- What contracts see of a simulation, and what a step makes of it. Where it is broken it has no tables.
 -- Source: this project.
-use Rattle.std.specs.Prelude.{◌≡◌, ℕ, ◌+◌, ◌<◌, ◌⊎◌, Bool, true, false, List, map, Some}
+use Rattle.std.specs.Prelude.{◌≡◌, ℕ, ◌+◌, ◌<◌, ◌⊎◌, Bool, true, false, List, map}
 use Rattle.bench_types.specs.declared.faults.Fault.{Fault}
 use Rattle.bench_types.specs.declared.faults.Fault.TheVariants.{Broken, Finished}
-use Rattle.bench_types.specs.declared.entries.Entry.{Entry}
 use Rattle.model.specs.Table.{Table}
 use Rattle.scenario.specs.Settings.{Settings}
 use Rattle.model.specs.calls.OwnerListView.{OwnerListView}
-use Rattle.simulation.specs.calls.RoundView.{RoundView}
-use Rattle.model.specs.calls.Numbers.{write_numbered}
-use Rattle.round_plan.specs.Writes.{written_upto}
+use Rattle.played_rounds.specs.calls.RoundView.{RoundView}
 use Rattle.model.specs.Runs.{IsFaultOfWorkers}
-use Rattle.simulation.specs.Rounds.{tables_after}
-use Rattle.simulation.specs.calls.Outcomes.{played_of}
-use Rattle.simulation.specs.Soundness.{AreSound, OnlyRestartsLowerMarks}
-use Rattle.simulation.specs.calls.Standing.{StandAfterRound}
+use Rattle.cluster.specs.Rounds.{tables_after}
+use Rattle.played_rounds.specs.calls.Outcomes.{played_of}
+use Rattle.played_rounds.specs.Soundness.{AreSound, OnlyRestartsLowerMarks}
+use Rattle.cluster.specs.calls.Standing.{StandAfterRound}
 
 -- `T` are the tables in memory
 pub record SimView (T : Type 0) : Type 0 where
@@ -23,12 +20,6 @@ pub record SimView (T : Type 0) : Type 0 where
   pub broken : Bool
   pub tables : List T
   pub lists : List OwnerListView
-
--- each write of the run meets what tables ask of what an owner writes under a number
-abbrev pub MayWriteAll : (ℕ → ℕ → Entry → Type 0) → Settings → Type 0
-MayWriteAll May s =
-    (owner number : ℕ) (e : Entry) → owner < s.nodes → write_numbered (written_upto s owner s.rounds) number ≡ Some e
-    → May owner number e
 
 -- these are the tables of the definition, unless a round has failed
 abbrev pub AreTablesAfter : {T : Type 0} → (T → Table) → SimView T → List T → Type 0

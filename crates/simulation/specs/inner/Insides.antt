@@ -5,24 +5,20 @@ use Rattle.bench_types.specs.declared.entries.Entry.{Entry}
 use Rattle.scenario.specs.contracts.scenarios.Scenario as scenario
 use Rattle.owner_writes.specs.inner.Codes.{list_code}
 use Rattle.round_histories.specs.Histories.{HistoriesView}
-use Rattle.simulation.specs.declared.clusters.Cluster.{Cluster}
 use Rattle.model.specs.Table.{Table}
 use Rattle.scenario.specs.Settings.{Settings}
 use Rattle.model.specs.calls.OwnerListView.{OwnerListView}
-use Rattle.simulation.specs.Rounds.{tables_after}
-use Rattle.simulation.specs.inner.Plans.{IsDrawnAfter}
-use Rattle.simulation.specs.inner.Steps.{HaveEnded}
-use Rattle.simulation.specs.calls.Standing.{StandAfterRound}
-use Rattle.simulation.specs.calls.Simulation.{AreTablesAfter, MayWriteAll, SimView}
+use Rattle.cluster.specs.calls.Standing.{MayWriteAll, StandAfterRound}
+use Rattle.cluster.specs.declared.clusters.Cluster.{Cluster}
+use Rattle.cluster.specs.inner.Plans.{IsDrawnAfter}
+use Rattle.cluster.specs.inner.Steps.{HaveEnded}
+use Rattle.simulation.specs.calls.Simulation.{AreTablesAfter, SimView}
 
 abbrev pub simulation_code : {T : Type 0} → Coded T → Coded (SimView T)
 simulation_code {T} table_code =
     code_by (Settings × (ℕ × (Bool × (List T × List OwnerListView)))) (coded× (scenario.the_row).coded (coded× coded_ℕ (coded× coded_bool (coded× (coded_list table_code) (coded_list list_code))))) (λ s. (s.settings, (s.rounds_done, (s.broken, (s.tables, s.lists))))) (λ p. record { settings = p.0; rounds_done = p.1.0; broken = p.1.1.0; tables = p.1.1.1.0; lists = p.1.1.1.1 }) (λ _. refl)
 
 -- what the nodes hold, and the lists of their writes
-abbrev pub tables_of : {T K : Type 0} → (T → Table) → Cluster T K → List Table
-tables_of table c = map table c.tables.items
-
 abbrev pub tables_held : {T K : Type 0} → Option (Cluster T K) → List T
 tables_held (Some c) = c.tables.items
 tables_held None = []
@@ -55,12 +51,3 @@ pub record IsInside {T K : Type 0} (table : T → Table) (kept : K → Histories
   pub ended : IfSome cluster (λ c. HaveEnded s done (kept c.histories))
   pub drawn : IfSome cluster (λ c. IsDrawnAfter s done c.drawn)
   pub may_write : MayWriteAll May s
-
--- a cluster after a round: what its nodes hold and have written is what the definition gives, its histories have ended
--- the round, and what is drawn is that of the round or of the next one
-pub record IsAfterRound {T K : Type 0} (table : T → Table) (kept : K → HistoriesView) (s : Settings) (round : ℕ)
-    (c : Cluster T K) : Type 0 where
-  pub standing : StandAfterRound s round (tables_of table c) (kept c.histories).lists
-  pub tables : tables_of table c ≡ tables_after s round
-  pub ended : HaveEnded s round (kept c.histories)
-  pub drawn : IsDrawnAfter s round c.drawn

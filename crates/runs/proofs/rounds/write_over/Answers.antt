@@ -13,7 +13,7 @@ returns-in_err-posts g c =
 pub returns-in-Err : goal.returns-in-Err
 returns-in-Err g c =
     answers_fault g.O.RoundWriter.wrote g.O.RoundWriter.stops _ _ _ _ _ NoThread refl
-    (subst (λ now. IsFaultInTurn g.O.RoundWriter.wrote g.O.RoundWriter.stops c.args.scenario c.args.output.now now c.args.resources.now.workers NoThread)
+    (subst (λ now. IsFaultInTurn g.O.RoundWriter.wrote g.O.RoundWriter.stops c.args.scenario c.args.output.now now c.args.resources.now.hands.workers NoThread)
     (ap (λ lent. lent.output.now) (sym c.in-Err.ensures.back) ∙ sym c.take_back-in-Err.ensures ∙ grind arith)
     (stops_at_first g.O.RoundWriter.wrote g.O.RoundWriter.stops _ c.args.output.now _ NoThread (omega (arith, c.rounds-rounds.ensures.limits))
     (inr (refl, omega (arith, c.in-Err.ensures.several, c.in_ok-posts.ensures.workers)))))
@@ -21,7 +21,7 @@ returns-in-Err g c =
 pub returns-in-Ok : goal.returns-in-Ok
 returns-in-Ok g c =
     let came = c.in-Ok.field-0 in
-    subst (λ now. AnswersRounds g.O.RoundWriter.wrote g.O.RoundWriter.stops c.args.scenario c.args.output.now now c.args.resources.now.workers came.held)
+    subst (λ now. AnswersRounds g.O.RoundWriter.wrote g.O.RoundWriter.stops c.args.scenario c.args.output.now now c.args.resources.now.hands.workers came.held)
     (sym c.take_back.ensures ∙ grind arith)
     (subst (λ workers. AnswersRounds g.O.RoundWriter.wrote g.O.RoundWriter.stops c.args.scenario c.args.output.now came.output.now workers came.held)
     c.in_ok-posts.ensures.workers c.in-Ok.ensures.done.1)

@@ -12,5 +12,5 @@ invariant_of-result g c =
     }
 
 pub returns-in-Ok-clause-empty : goal.returns-in-Ok-clause-empty
-unfolding Rattle.simulation.specs.Rounds.tables_after
+unfolding Rattle.cluster.specs.Rounds.tables_after
 returns-in-Ok-clause-empty g c = (IfOk-at_ok _ c.in-Ok.is c.requires.opens).tables

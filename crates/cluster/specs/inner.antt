@@ -1,0 +1,4 @@
+pub mod Clusters
+pub mod InMemory
+pub mod Plans
+pub mod Steps

@@ -1,0 +1,4 @@
+pub mod Soundness
+pub mod Defined
+pub mod Exchanged
+pub mod Common

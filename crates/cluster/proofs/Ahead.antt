@@ -4,7 +4,8 @@ use Rattle.cluster.proofs.Common.{◌≡◌, ℕ, ◌+◌, ◌-◌, ◌<◌, ◌
 use Rattle.std.specs.Prelude.{None, Option, Some}
 use Rattle.cluster.proofs.Common.{Global, IfSome, Vec}
 use Rattle.cluster.specs.calls.Standing.{StandAfterRound}
-use Rattle.cluster.specs.inner.Plans.{AreCountsAfter, AreWritesOfAll, counted_in}
+use Rattle.cluster.specs.calls.Plans.{AreCountsAfter, AreWritesOfAll}
+use Rattle.cluster.specs.inner.Steps.{counted_in}
 
 -- those of the first so many nodes
 pub record AreWritesUpto (s : Settings) (round i : ℕ) (all : List (List OwnWrite)) : Type 0 where

@@ -10,7 +10,7 @@ pub use Rattle.std.proofs.lemmas.List.FromFn.{length-map-range_with_len}
 pub use Rattle.std.proofs.lemmas.List.Sums.{fold-append}
 pub use Rattle.std.proofs.lemmas.Result.{IfOk-at_ok, IfOk-weaker, on_ok_weaker}
 pub use Rattle.std.specs.List.{range_with_len}
-pub use Rattle.std.specs.Prelude.{Contains, IfSome, OnOk, Vec}
+pub use Rattle.std.specs.Prelude.{IfSome, OnOk, Vec}
 pub use Rattle.std.specs.declared.alloc.Global.{Global}
 pub use Rattle.model.proofs.Common.{AreNextAfter, Entry, IsNextAfter, LEAST_KEYS, MOST_KEYS, MOST_NODES, Mark, next_version}
 pub use Rattle.model.proofs.BeginLaws.{counted_write, generation-written}
@@ -21,7 +21,7 @@ pub use Rattle.model.proofs.ProperLaws.{proper-empty_table, proper-with_own_writ
 pub use Rattle.model.proofs.TableLaws.{entry_at-without_all, entry_at-without_others_own}
 pub use Rattle.model.proofs.Tables.{same_tables, still_table_of, table_of_node-made, table_of_node-set_other, table_of_node-set_same}
 pub use Rattle.model.specs.Table.{IsProper, Table, empty_table, entry_at, greatest_mark, greatest_version, with_own_write, with_own_writes, without_all, without_others}
-pub use Rattle.model.specs.Tables.{AreProper, HoldsOfEach, table_of_node}
+pub use Rattle.model.specs.Tables.{AreProper, table_of_node}
 pub use Rattle.model.specs.Writes.{write_of_entry}
 pub use Rattle.model.specs.calls.Numbers.{write_from, write_numbered}
 pub use Rattle.model.specs.calls.OwnParts.{OwnPartIsLastWrites}
@@ -39,5 +39,5 @@ pub use Rattle.round_plan.specs.calls.Outages.{any_restart_now}
 pub use Rattle.round_plan.specs.calls.Words.{RunWordsView, run_words_of}
 pub use Rattle.round_plan.specs.calls.Writes.{AreWritesOf, born_in, writes_before}
 pub use Rattle.round_plan.specs.declared.owners.OwnWrite.{OwnWrite}
-pub use Rattle.round_histories.specs.Histories.{AddsWrite, AreWrittenBy, BirthsRise, HistoriesView, MayWrite, StandsAmong, StandsBeside, StaysBesideLists, own_list}
+pub use Rattle.round_histories.specs.Histories.{AddsWrite, AreWrittenBy, BirthsRise, HistoriesView, MayWrite, StandsBeside, StaysBesideLists, own_list}
 pub use Rattle.scenario.specs.Settings.{Settings}

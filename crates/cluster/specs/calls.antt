@@ -1,1 +1,3 @@
+pub mod Clusters
+pub mod Plans
 pub mod Standing

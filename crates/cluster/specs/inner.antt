@@ -1,4 +1,2 @@
-pub mod Clusters
 pub mod InMemory
-pub mod Plans
 pub mod Steps

@@ -5,7 +5,7 @@ ghost use Rattle.bench_types.specs.declared.faults.Fault.TheVariants.{OutOfMemor
 ghost use Rattle.model.specs.Tables.{AreProper};
 ghost use Rattle.round_histories.specs.Histories.{AreNewHistories};
 ghost use Rattle.cluster.specs.Rounds.{opening_tables};
-ghost use Rattle.cluster.specs.inner.Clusters.{IsAfterRound, IsBefore, IsUnderWay};
+ghost use Rattle.cluster.specs.calls.Clusters.{IsAfterRound, IsBefore, IsUnderWay};
 
 use crate::plans::Drawn;
 use crate::starts::{Begun, begin};
@@ -26,6 +26,7 @@ pub struct Cluster<T, K> {
 }
 
 impl<T: MemoryTable + Send + Sync, K: RoundHistories<T>> Cluster<T, K> {
+    /// The cluster before its first round, where all tables are empty.
     pub fn new(alloc: Global, scenario: &Scenario) -> Result<Cluster<T, K>, Fault>
         ensures opens { IfOk result (IsAfterRound T.table K.kept scenario.now 0) }
         ensures only { IsOkUnless result OutOfMemory }

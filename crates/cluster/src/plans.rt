@@ -3,7 +3,7 @@
 ghost use Rattle.std.specs.Prelude.{◌≡◌, ◌-◌, ◌≤◌, IfOk, IfSome, IsOkUnless, is_some};
 ghost use Rattle.bench_types.specs.declared.faults.Fault.TheVariants.{OutOfMemory};
 ghost use Rattle.round_plan.specs.calls.Words.{run_words_of};
-ghost use Rattle.cluster.specs.inner.Plans.{AreCountsAfter, AreWritesOfAll, IsPlanOf, IsDrawnAfter};
+ghost use Rattle.cluster.specs.calls.Plans.{AreCountsAfter, AreWritesOfAll, IsPlanOf, IsDrawnAfter};
 
 use bench_types::Fault;
 use bench_types::limits::MOST_ROUNDS;
@@ -67,7 +67,7 @@ pub enum Drawn {
 
 impl Drawn {
     /// The plan of a round: the one at hand, or else it is made.
-    pub fn plan(
+    pub(crate) fn plan(
         self,
         resources: &Resources<impl Threads + Sync>,
         scenario: &Scenario,

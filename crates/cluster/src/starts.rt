@@ -5,9 +5,10 @@ ghost use Rattle.bench_types.specs.declared.faults.Fault.TheVariants.{OutOfMemor
 ghost use Rattle.limits.specs.declared.TheConstants.{MOST_ROUNDS};
 ghost use Rattle.round_plan.specs.Plan.{round_list_of};
 ghost use Rattle.cluster.specs.Rounds.{after_restart};
-ghost use Rattle.cluster.specs.inner.InMemory.{HasBegun, IsBeforeRound, IsBegun, IsOwnerIn, IsRestartedIn, IsWritten, MayWriteNow, TablesStand, WritesIn};
-ghost use Rattle.cluster.specs.inner.Plans.{AreCountsAfter, IsDrawnAfter, IsPlanOf, MayDraw, counted_in};
-ghost use Rattle.cluster.specs.inner.Steps.{HaveEnded, IsRoundOf, LeavesOthers, MayWriteOwn};
+ghost use Rattle.cluster.specs.inner.InMemory.{HasBegun, IsBeforeRound, IsBegun, IsOwnerIn, IsRestartedIn, IsWritten, MayWriteNow, WritesIn};
+ghost use Rattle.cluster.specs.calls.Clusters.{HaveEnded, IsRoundOf, TablesStand};
+ghost use Rattle.cluster.specs.calls.Plans.{AreCountsAfter, IsDrawnAfter, IsPlanOf, MayDraw};
+ghost use Rattle.cluster.specs.inner.Steps.{counted_in, LeavesOthers, MayWriteOwn};
 
 use crate::plans::{Drawn, Plan};
 use bench_types::Fault;
@@ -26,7 +27,7 @@ pub struct Begun {
     pub counts: Option<Vec<u32>>,
 }
 
-/// The same, of tables and histories.
+/// A round begins, of tables and histories: its restarts and its writes are made.
 pub(crate) fn begin<T: MemoryTable, K: RoundHistories<T>>(
     resources: &Resources<impl Threads + Sync>,
     scenario: &Scenario,

@@ -5,11 +5,9 @@ use Rattle.round_histories.specs.Histories.{AreFiguresCounted, StandAtRoundEnd}
 use Rattle.round_histories.specs.declared.round_histories.Counted.{Counted}
 use Rattle.cluster.specs.declared.clusters.UnderWay.{UnderWay}
 use Rattle.cluster.specs.declared.plans.Drawn.{Drawn}
-use Rattle.cluster.specs.inner.Clusters.{IsAfterRound}
-use Rattle.cluster.specs.inner.Plans.{IsDrawnAfter}
-use Rattle.cluster.specs.inner.Clusters.{IsUnderWay}
+use Rattle.cluster.specs.calls.Clusters.{HaveEnded, IsAfterRound, IsUnderWay}
+use Rattle.cluster.specs.calls.Plans.{IsDrawnAfter}
 use Rattle.played_rounds.specs.calls.Outcomes.{played_of, played_with}
-use Rattle.cluster.specs.inner.Steps.{HaveEnded}
 use Rattle.played_rounds.specs.calls.RoundView.{RoundView}
 use Rattle.cluster.specs.Rounds.{begun, rules_of, round_of, tables_after}
 use Rattle.cluster.specs.calls.Standing.{IsOwner, StandAfterRound}
@@ -19,7 +17,7 @@ use Rattle.cluster.proofs.Standing.{beside_own, standing_kept, written_by}
 use Rattle.played_rounds.proofs.Defined.{figures_are, left_after}
 
 -- each table among the lists, where each entry that it holds is a write of its owner
-pub each_among : (s : Settings) (round : ℕ) (ts : List Table) (h : HistoriesView) → h.keys ≡ s.keys → StandAfterRound s round ts h.lists → AreSound s round ts
+each_among : (s : Settings) (round : ℕ) (ts : List Table) (h : HistoriesView) → h.keys ≡ s.keys → StandAfterRound s round ts h.lists → AreSound s round ts
     → HoldsOfEach (StandsAmong h) ts
 each_among s round ts h keys is sound n lt = record {
   nodes = own.table.nodes ∙ sym is.list_count;

@@ -2,7 +2,7 @@
 //!
 //! # Choices
 //!
-//! - `every_run_is_sound` speaks of each moment within a round, which no caller can look at.
+//! - `every_run_is_sound` speaks of each moment within a round, also of those that no caller can look at.
 #![tactic(auto)]
 
 mod laws;

@@ -4,9 +4,10 @@ ghost use Rattle.std.specs.Prelude.{◌≡◌, length, IfOk, IsOkUnless};
 ghost use Rattle.bench_types.specs.declared.faults.Fault.TheVariants.{OutOfMemory};
 ghost use Rattle.round_histories.specs.Histories.{StandAtRoundEnd};
 ghost use Rattle.cluster.specs.Rounds.{rules_of};
-ghost use Rattle.cluster.specs.inner.Clusters.{IsUnderWay};
-ghost use Rattle.cluster.specs.inner.Plans.{IsDrawnAfter, MayDraw};
-ghost use Rattle.played_rounds.specs.inner.Playing.{HasEnded, IsPlayed, MayPlay, Plays};
+ghost use Rattle.cluster.specs.calls.Clusters.{IsUnderWay};
+ghost use Rattle.cluster.specs.calls.Plans.{IsDrawnAfter, MayDraw};
+ghost use Rattle.played_rounds.specs.inner.Playing.{HasEnded};
+ghost use Rattle.played_rounds.specs.calls.Playing.{IsPlayed, MayPlay, Plays};
 
 use crate::rounds::Round;
 use bench_types::{Fault, Rules};

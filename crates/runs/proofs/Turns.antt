@@ -1,12 +1,12 @@
 -- How far the rounds of a scenario have been carried out and written.
 -- Serves the functions of `rounds` and `sizes`, `Comparison` and `Reporting`.
-use Rattle.runs.proofs.Common.{◌≡◌, ℕ, ◌+◌, ◌<◌, ◌≤◌, Result, Ok, Err, inl, inr, refl, sym, ap, ◌∙◌, subst, arith, add-one, IsErrAnd, Fault, Table, IsFaultOfWorkers, Settings, RoundView, played_of}
+use Rattle.runs.proofs.Common.{◌≡◌, ℕ, ◌+◌, ◌<◌, ◌≤◌, Result, Ok, Err, inl, inr, refl, sym, ap, subst, arith, add-one, IsErrAnd, Fault, Table, IsFaultOfWorkers, Settings, RoundView, played_of}
 use Rattle.runs.specs.Runs.{IsFaultInRounds}
 use Rattle.std.specs.Prelude.{◌⊎◌}
 use Rattle.bench_types.specs.declared.faults.Fault.TheVariants.{OutOfMemory}
 use Rattle.round_histories.specs.Histories.{HistoriesView}
 use Rattle.cluster.specs.declared.clusters.Cluster.{Cluster}
-use Rattle.cluster.specs.inner.Clusters.{IsAfterRound}
+use Rattle.cluster.specs.calls.Clusters.{IsAfterRound}
 use Rattle.runs.specs.inner.Rounds.{AreWrittenInTurn, IsFaultInTurn, AnswersRounds}
 
 -- what is written on both sides of a fault in rounds may be told otherwise
@@ -70,11 +70,6 @@ module _ {O : Type 0} (Wrote : O → O → RoundView → Type 0) (Stops : O → 
   -- or the first one wasn't
   pub stops_at_first : (workers : ℕ) (fault : Fault) → 0 < s.rounds → IsFaultOfWorkers workers fault → IsFaultInTurn Wrote Stops s old old workers fault
   stops_at_first workers fault some of_workers = record { rounds = 0; within = some; stops = inl (of_workers, refl) }
-
-  -- all were, and the scenario comes back
-  pub answers_all : (now : O) (workers : ℕ) (back : Settings) → AreWrittenInTurn Wrote s old now s.rounds → back ≡ s
-      → AnswersRounds Wrote Stops s old now workers (Ok back)
-  answers_all now workers back written is = record { same = is; written = written; fault = tt }
 
   -- what fewer workers answer
   pub answers_of_fewer : (now : O) (fewer workers : ℕ) (answer : Result Settings Fault) → fewer ≤ workers

@@ -2,8 +2,8 @@
 
 ghost use Rattle.std.specs.Prelude.{◌≡◌, OnOk, IfOk, IfErr};
 ghost use Rattle.cluster.specs.calls.Standing.{MayWriteAll};
-ghost use Rattle.cluster.specs.inner.Clusters.{IsAfterRound};
-ghost use Rattle.played_rounds.specs.inner.Playing.{MayPlay};
+ghost use Rattle.cluster.specs.calls.Clusters.{IsAfterRound};
+ghost use Rattle.played_rounds.specs.calls.Playing.{MayPlay};
 ghost use Rattle.runs.specs.inner.Rounds.{AnswersRounds, AreWrittenInTurn, IsFaultInTurn, StopsNext, WritesNext};
 
 use bench_types::Fault;

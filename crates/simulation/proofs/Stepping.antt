@@ -6,12 +6,11 @@ use Rattle.bench_types.specs.declared.faults.Fault.TheVariants.{OutOfMemory}
 use Rattle.cluster.specs.Rounds.{tables_after}
 use Rattle.cluster.specs.calls.Standing.{StandAfterRound}
 use Rattle.cluster.specs.declared.clusters.Cluster.{Cluster}
-use Rattle.cluster.specs.inner.Clusters.{IsAfterRound, IsBefore}
-use Rattle.cluster.specs.inner.Plans.{IsDrawnAfter}
-use Rattle.cluster.specs.inner.Steps.{HaveEnded}
+use Rattle.cluster.specs.calls.Clusters.{HaveEnded, IsAfterRound, IsBefore}
+use Rattle.cluster.specs.calls.Plans.{IsDrawnAfter}
 use Rattle.played_rounds.specs.calls.RoundView.{RoundView}
 use Rattle.played_rounds.specs.Soundness.{AreSound, OnlyRestartsLowerMarks}
-use Rattle.played_rounds.specs.inner.Playing.{IsPlayed}
+use Rattle.played_rounds.specs.calls.Playing.{IsPlayed}
 use Rattle.played_rounds.proofs.Soundness.{sound_run, round_rises}
 use Rattle.simulation.specs.inner.Insides.{IsInside, simulation_of, tables_held, lists_held}
 use Rattle.simulation.specs.inner.Stepping.{HasTakenOut, IsPutBack}

@@ -3,7 +3,7 @@
 ghost use Rattle.std.specs.Prelude.{IfOk, IfErr, IsOkUnless};
 ghost use Rattle.bench_types.specs.declared.faults.Fault.TheVariants.{OutOfMemory};
 ghost use Rattle.model.specs.Runs.{IsFaultOfWorkers};
-ghost use Rattle.played_rounds.specs.inner.Playing.{MayPlay, Plays};
+ghost use Rattle.played_rounds.specs.calls.Playing.{MayPlay, Plays};
 
 use bench_types::Fault;
 use cluster::Cluster;

@@ -5,7 +5,7 @@ ghost use Rattle.bench_types.specs.declared.faults.Fault.TheVariants.{OutOfMemor
 ghost use Rattle.model.specs.Runs.{AreWorkers};
 ghost use Rattle.cluster.specs.Rounds.{opening_tables};
 ghost use Rattle.cluster.specs.calls.Standing.{MayWriteAll};
-ghost use Rattle.cluster.specs.inner.Clusters.{IsAfterRound};
+ghost use Rattle.cluster.specs.calls.Clusters.{IsAfterRound};
 ghost use Rattle.simulation.specs.inner.Stepping.{HasTakenOut, IsPutBack};
 ghost use Rattle.simulation.specs.calls.Simulation.{AreTablesAfter, PlaysNext, IsRefusedBy, IsStepFault};
 

@@ -1,5 +1,5 @@
--- The parts of a step, of tables and histories in memory: `table` gives the table of a value, and `kept` what contracts
--- see of histories. Source: this project.
+-- The parts of what a round begins with, of tables and histories in memory: `table` gives the table of a value, and
+-- `kept` what contracts see of histories. Source: this project.
 use Rattle.std.specs.Prelude.{◌≡◌, ℕ, ◌+◌, ◌-◌, ◌<◌, ◌≤◌, List, length, map}
 use Rattle.limits.specs.declared.TheConstants.{MOST_ROUNDS}
 use Rattle.model.specs.Table.{Table, with_own_writes}
@@ -10,8 +10,9 @@ use Rattle.round_plan.specs.declared.owners.OwnWrite.{OwnWrite}
 use Rattle.round_histories.specs.Histories.{HistoriesView, own_list, StandsAmong}
 use Rattle.scenario.specs.Settings.{Settings}
 use Rattle.cluster.specs.Rounds.{begun}
-use Rattle.cluster.specs.calls.Standing.{IsOwner, StandAfterRound}
-use Rattle.cluster.specs.inner.Steps.{begun_table, HasWritten, HasRestarted, HaveEnded, IsNodeBefore}
+use Rattle.cluster.specs.calls.Clusters.{HaveEnded, TablesStand}
+use Rattle.cluster.specs.calls.Standing.{IsOwner}
+use Rattle.cluster.specs.inner.Steps.{begun_table, HasWritten, HasRestarted, IsNodeBefore}
 
 -- what a round begins with: of one table, and of what its writes leave, and of all
 abbrev pub IsBegun : {T : Type 0} → (T → Table) → Settings → ℕ → ℕ → T → T → Type 0
@@ -25,10 +26,6 @@ abbrev pub AreBegun : {T : Type 0} → (T → Table) → Settings → ℕ → Li
 AreBegun table s round old new = map table new ≡ begun s round (map table old)
 
 module _ {T K : Type 0} (table : T → Table) (kept : K → HistoriesView) where
-  -- all nodes' tables beside the lists, after a round
-  abbrev pub TablesStand : Settings → ℕ → List T → K → Type 0
-  TablesStand s round ts k = StandAfterRound s round (map table ts) (kept k).lists
-
   -- one node's table beside its list, after a round, and after the restarts that it begins with
   abbrev pub IsOwnerIn : Settings → ℕ → ℕ → T → K → Type 0
   IsOwnerIn s round n t k = IsOwner s round n (table t) (list_of_owner (kept k).lists n)

@@ -1,7 +1,6 @@
 -- The parts of what a round begins with. Source: this project.
 use Rattle.std.specs.Prelude.{◌≡◌, ◌≢◌, ℕ, List, ◌+◌, ◌-◌, ◌^◌, ◌<◌, ◌≤◌, map, ◌++◌, length, slice_index_or, All}
 use Rattle.bench_types.specs.declared.entries.Entry.{Entry}
-use Rattle.limits.specs.declared.TheConstants.{MOST_ROUNDS}
 use Rattle.bench_types.specs.calls.Entry.{AreNextAfter}
 use Rattle.scenario.specs.Settings.{Settings}
 use Rattle.model.specs.calls.OwnerListView.{OwnerListView, written, list_of_owner, all_writes}
@@ -14,7 +13,7 @@ use Rattle.round_plan.specs.Generations.{generation_upto}
 use Rattle.model.specs.calls.OwnParts.{OwnPartIsLastWrites}
 use Rattle.model.specs.calls.Writes.{AreBornBy}
 use Rattle.round_histories.specs.Histories.{HistoriesView, StaysBesideLists, own_list, StandsBeside}
-use Rattle.cluster.specs.calls.Standing.{IsOwnerOf, IsOwner, MayWriteAll}
+use Rattle.cluster.specs.calls.Standing.{IsOwnerOf, IsOwner}
 
 -- what a round begins with: for one node, and for all
 abbrev pub begun_table : Settings → ℕ → ℕ → Table → Table
@@ -25,23 +24,11 @@ abbrev pub MayWriteEach : (ℕ → ℕ → Entry → Type 0) → ℕ → ℕ →
 MayWriteEach May owner before writes =
     (i : ℕ) (d : Entry) → i < length writes → May owner (before + i + 1) (slice_index_or writes i d)
 
--- a round of a scenario, of which tables may hold all that is written
-pub record IsRoundOf (May : ℕ → ℕ → Entry → Type 0) (s : Settings) (round : ℕ) : Type 0 where
-  pub first : 1 ≤ round
-  pub last : round ≤ MOST_ROUNDS
-  pub within : round ≤ s.rounds
-  pub may_write : MayWriteAll May s
-
 -- a node's table, and all owners' lists, before a round
 pub record IsNodeBefore (s : Settings) (round n : ℕ) (t : Table) (lists : List OwnerListView) : Type 0 where
   pub node : n < s.nodes
   pub one_each : length lists ≡ s.nodes
   pub owner : IsOwner s (round - 1) n t (list_of_owner lists n)
-
--- histories of a scenario's run, of which so many rounds have ended
-pub record HaveEnded (s : Settings) (round : ℕ) (h : HistoriesView) : Type 0 where
-  pub keys : h.keys ≡ s.keys
-  pub rounds : h.rounds ≡ round
 
 -- a node may make these writes in a round, one after another
 pub record MayWriteOwn (May : ℕ → ℕ → Entry → Type 0) (round : ℕ) (writes : List OwnWrite) (t : Table)
@@ -78,3 +65,7 @@ pub record HasWritten (round : ℕ) (writes : List OwnWrite) (old new : Table) (
 -- and after the restarts of one, before its writes
 abbrev pub HasRestarted : Settings → ℕ → ℕ → Table → OwnerListView → Type 0
 HasRestarted s round n t v = IsOwnerOf s n (generation_upto s n round) (writes_before s n round) (written_upto s n (round - 1)) (round - 1) t v
+
+-- how many writes of its generation an owner's list has
+abbrev pub counted_in : OwnerListView → ℕ
+counted_in list = length list.current

@@ -1,4 +1,4 @@
--- All that a step answers of a round. Source: this project.
+-- All that is told of a round that was played. Source: this project.
 use Rattle.std.specs.Prelude.{ℕ, List}
 use Rattle.bench_types.specs.declared.exchanges.Record.{Record}
 use Rattle.bench_types.specs.declared.rows.Figures.{Figures}

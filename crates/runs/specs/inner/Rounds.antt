@@ -7,7 +7,7 @@ use Rattle.bench_types.specs.declared.faults.Fault.TheVariants.{OutOfMemory}
 use Rattle.model.specs.Table.{Table}
 use Rattle.round_histories.specs.Histories.{HistoriesView}
 use Rattle.cluster.specs.declared.clusters.Cluster.{Cluster}
-use Rattle.cluster.specs.inner.Clusters.{IsAfterRound}
+use Rattle.cluster.specs.calls.Clusters.{IsAfterRound}
 use Rattle.runs.specs.Runs.{IsFaultInRounds}
 use Rattle.scenario.specs.Settings.{Settings}
 use Rattle.played_rounds.specs.calls.Outcomes.{played_of}

@@ -10,8 +10,8 @@ use Rattle.scenario.specs.Settings.{Settings}
 use Rattle.model.specs.calls.OwnerListView.{OwnerListView}
 use Rattle.cluster.specs.calls.Standing.{MayWriteAll, StandAfterRound}
 use Rattle.cluster.specs.declared.clusters.Cluster.{Cluster}
-use Rattle.cluster.specs.inner.Plans.{IsDrawnAfter}
-use Rattle.cluster.specs.inner.Steps.{HaveEnded}
+use Rattle.cluster.specs.calls.Plans.{IsDrawnAfter}
+use Rattle.cluster.specs.calls.Clusters.{HaveEnded}
 use Rattle.simulation.specs.calls.Simulation.{AreTablesAfter, SimView}
 
 abbrev pub simulation_code : {T : Type 0} → Coded T → Coded (SimView T)

@@ -5,7 +5,7 @@ use Rattle.bench_types.specs.declared.faults.Fault.{Fault}
 use Rattle.model.specs.Table.{Table}
 use Rattle.round_histories.specs.Histories.{HistoriesView}
 use Rattle.cluster.specs.declared.clusters.Cluster.{Cluster}
-use Rattle.cluster.specs.inner.Clusters.{IsBefore}
+use Rattle.cluster.specs.calls.Clusters.{IsBefore}
 use Rattle.played_rounds.specs.calls.RoundView.{RoundView}
 use Rattle.simulation.specs.calls.Simulation.{MayStep, SimView}
 use Rattle.simulation.specs.inner.Insides.{simulation_of}

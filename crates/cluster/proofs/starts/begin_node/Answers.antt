@@ -1,5 +1,5 @@
 use Rattle.cluster.proofs.Common.{ℕ, ◌∙◌, [], arith, Table, Settings, ap, sym, subst, get_or, get_or_default, length, on_ok_weaker, with_own_writes, own_writes, count_before, IfSome, AreWritesOf}
-use Rattle.cluster.specs.inner.Plans.{AreWritesOfAll}
+use Rattle.cluster.specs.calls.Plans.{AreWritesOfAll}
 use Rattle.cluster.proofs.Standing.{leaves_both, still_ended}
 use Rattle.cluster.proofs.starts.begin_node.Goals as goal
 

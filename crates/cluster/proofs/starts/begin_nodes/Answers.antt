@@ -6,7 +6,7 @@ use Rattle.cluster.proofs.starts.begin_nodes.Given as given
 use Rattle.cluster.proofs.Begins.{begun_none, before_next, begun_next, begun_all}
 use Rattle.cluster.proofs.Standing.{next_round, still_ended, written_by}
 use Rattle.cluster.specs.calls.Standing.{StandAfterRound}
-use Rattle.cluster.specs.inner.Steps.{HaveEnded}
+use Rattle.cluster.specs.calls.Clusters.{HaveEnded}
 use Rattle.cluster.proofs.starts.begin_nodes.Goals as goal
 
 pub loop-node-init : goal.loop-node-init

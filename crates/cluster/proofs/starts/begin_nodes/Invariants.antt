@@ -1,5 +1,5 @@
 use Rattle.cluster.proofs.Common.{◌-◌, map}
-use Rattle.cluster.specs.inner.Steps.{HaveEnded}
+use Rattle.cluster.specs.calls.Clusters.{HaveEnded}
 use Rattle.cluster.proofs.Begins.{HaveBegun}
 use Rattle.cluster.proofs.starts.begin_nodes.Given as goal
 

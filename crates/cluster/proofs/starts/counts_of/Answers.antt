@@ -1,5 +1,5 @@
 use Rattle.cluster.proofs.Common.{List, ℕ, ◌≡◌, ◌++◌, ◌∙◌, ◌∷◌, [], sym, ap, arith, length, length-map, length-take-le, map, map_more, take, take-length, no_writes}
-use Rattle.cluster.specs.inner.Plans.{counted_in}
+use Rattle.cluster.specs.inner.Steps.{counted_in}
 use Rattle.cluster.proofs.starts.counts_of.Goals as goal
 
 pub loop-owner-preserved : goal.loop-owner-preserved

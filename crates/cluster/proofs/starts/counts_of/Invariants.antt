@@ -1,6 +1,6 @@
 use Rattle.std.specs.Prelude.{vec_capacity}
 use Rattle.cluster.proofs.Common.{◌≡◌, map, take}
-use Rattle.cluster.specs.inner.Plans.{counted_in}
+use Rattle.cluster.specs.inner.Steps.{counted_in}
 use Rattle.cluster.proofs.starts.counts_of.Given as goal
 
 abbrev pub invariant-loop-owner : goal.invariant-loop-owner

@@ -1,5 +1,5 @@
 use Rattle.played_rounds.proofs.Common.{map, subst, sym, ap, IfOk, IfOk-weaker, IsLawfulBudget, Rules, IsCluster, RoundListView, IsRoundPlan}
-use Rattle.cluster.specs.inner.Plans.{IsDrawnAfter}
+use Rattle.cluster.specs.calls.Plans.{IsDrawnAfter}
 use Rattle.round_histories.specs.Histories.{AreFiguresCounted, StandAtRoundEnd}
 use Rattle.played_rounds.proofs.Exchanged.{lawful_budget, each_begun, nodes_cluster, one_record_each, may_count, played, after}
 use Rattle.played_rounds.proofs.playing.carry_out.Goals as goal

@@ -1,5 +1,5 @@
 use Rattle.std.proofs.lemmas.List.{with_items_is}
-use Rattle.cluster.proofs.Common.{◌-◌, IfOk-weaker, ap, map, refl, subst, sym, ◌∙◌}
+use Rattle.cluster.proofs.Common.{◌-◌, ap, map, refl, subst, sym, ◌∙◌}
 use Rattle.cluster.specs.Rounds.{begun}
 use Rattle.cluster.specs.calls.Standing.{StandAfterRound}
 use Rattle.cluster.proofs.clusters.Cluster.begin.Goals as goal

@@ -1,17 +1,33 @@
--- A cluster between two rounds, and one of which a round has begun. Source: this project.
-use Rattle.std.specs.Prelude.{◌≡◌, ℕ, ◌-◌, List, map}
+-- A cluster between two rounds, and one of which a round has begun: `table` gives the table of a value in memory, and
+-- `kept` what contracts see of histories. Source: this project.
+use Rattle.std.specs.Prelude.{◌≡◌, ℕ, ◌-◌, ◌≤◌, List, map}
 use Rattle.bench_types.specs.declared.entries.Entry.{Entry}
+use Rattle.limits.specs.declared.TheConstants.{MOST_ROUNDS}
 use Rattle.model.specs.Table.{Table}
 use Rattle.round_histories.specs.Histories.{HistoriesView, StandsAmong}
 use Rattle.round_plan.specs.Plan.{round_list_of}
 use Rattle.scenario.specs.Settings.{IsLawfulScenario, Settings}
 use Rattle.cluster.specs.Rounds.{begun, tables_after}
-use Rattle.cluster.specs.calls.Standing.{StandAfterRound}
+use Rattle.cluster.specs.calls.Standing.{MayWriteAll, StandAfterRound}
 use Rattle.cluster.specs.declared.clusters.Cluster.{Cluster}
 use Rattle.cluster.specs.declared.clusters.UnderWay.{UnderWay}
-use Rattle.cluster.specs.inner.InMemory.{TablesStand}
-use Rattle.cluster.specs.inner.Plans.{IsDrawnAfter, MayDraw}
-use Rattle.cluster.specs.inner.Steps.{HaveEnded, IsRoundOf}
+use Rattle.cluster.specs.calls.Plans.{IsDrawnAfter, MayDraw}
+
+-- histories of a scenario's run, of which so many rounds have ended
+pub record HaveEnded (s : Settings) (round : ℕ) (h : HistoriesView) : Type 0 where
+  pub keys : h.keys ≡ s.keys
+  pub rounds : h.rounds ≡ round
+
+-- a round of a scenario, of which tables may hold all that is written
+pub record IsRoundOf (May : ℕ → ℕ → Entry → Type 0) (s : Settings) (round : ℕ) : Type 0 where
+  pub first : 1 ≤ round
+  pub last : round ≤ MOST_ROUNDS
+  pub within : round ≤ s.rounds
+  pub may_write : MayWriteAll May s
+
+-- all nodes' tables beside the lists, after a round
+abbrev pub TablesStand : {T K : Type 0} → (T → Table) → (K → HistoriesView) → Settings → ℕ → List T → K → Type 0
+TablesStand table kept s round ts k = StandAfterRound s round (map table ts) (kept k).lists
 
 -- what the nodes hold
 abbrev pub tables_of : {T K : Type 0} → (T → Table) → Cluster T K → List Table

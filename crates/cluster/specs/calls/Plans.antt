@@ -2,7 +2,6 @@
 use Rattle.std.specs.Prelude.{◌≡◌, ℕ, ◌+◌, ◌*◌, ◌<◌, ◌≤◌, List, [], length, slice_index_or, Option, IfSome, Vec}
 use Rattle.std.specs.declared.alloc.Global.{Global}
 use Rattle.limits.specs.declared.TheConstants.{MOST_ROUNDS, MOST_WRITES}
-use Rattle.model.specs.calls.OwnerListView.{OwnerListView}
 use Rattle.round_plan.specs.Plan.{round_list_of}
 use Rattle.round_plan.specs.Writes.{writes_upto}
 use Rattle.round_plan.specs.calls.Outages.{any_restart_now}
@@ -27,11 +26,7 @@ pub record IsPlanOf (s : Settings) (round : ℕ) (plan : Plan) : Type 0 where
   pub list : plan.list ≡ round_list_of s round
   pub writes : IfSome plan.writes (λ v. AreWritesOfAll s round v.items)
 
--- how many writes of its generation an owner's list has
-abbrev pub counted_in : OwnerListView → ℕ
-counted_in list = length list.current
-
--- and each after a round
+-- how many writes of its generation each node has made after a round
 pub record AreCountsAfter (s : Settings) (round : ℕ) (counts : List ℕ) : Type 0 where
   pub count : length counts ≡ s.nodes
   pub each : (n : ℕ) → n < s.nodes → slice_index_or counts n 0 ≡ length (writes_upto s n round)

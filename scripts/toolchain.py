@@ -25,6 +25,7 @@ USED = {
 # By this flag, which rt adds where the prover's help has it, a proof also looks for contracts that no call can meet.
 MEETS = "--empty-contracts"
 LOADER = "/lib64/ld-linux-x86-64.so.2"
+CHECK_MEMORY = 3_000_000_000  # bytes that one check may take
 
 
 class Lacking(Exception):
@@ -74,6 +75,11 @@ def load_rt(top):
     signal.signal(signal.SIGCHLD, signal.SIG_DFL)
     need(rt, "Crate", *rt.rtlib.crates_below(str(top)))
     return rt
+
+
+def lanes_of(rt):
+    """How many checks go side by side, as processors and memory allow."""
+    return max(1, min(rt.processors(), rt.free() // CHECK_MEMORY))
 
 
 def read_by(rt, crate):

@@ -4,12 +4,10 @@ ghost use Rattle.std.specs.Prelude.{OnOk, IfErr};
 ghost use Rattle.command_words.specs.Workers.{HasLawfulWorkers};
 ghost use Rattle.command_line.specs.Jobs.{IsChecked, IsCheckFault, IsPerformed, IsJobFault};
 
-use crate::streams::is_input_or_output;
 use bench_types::{Discard, Fault, Push, Sink, Source, write_text};
-use command_words::Job;
+use command_words::{Job, trace_file};
 use runs::{check_input, compare, run};
 use std::alloc::Global;
-use std::fs;
 use std::rt::Files;
 use std::sync::Wait;
 use std::thread::Threads;
@@ -49,14 +47,6 @@ pub fn perform<H: Threads + Wait + Sync + Files, R: Source, W: Sink>(
         },
         Job::Compare { workers } => compare(rt, alloc, reader, out, workers),
     }
-}
-
-// Makes the file of a trace anew. One that is the process's own input or output is refused, and stays as it is.
-fn trace_file<H: Files>(rt: &H, path: &str) -> Option<H::File> {
-    if is_input_or_output(rt, path) {
-        return None;
-    }
-    fs::create(rt, path).ok()
 }
 
 fn check<R: Source, W: Sink>(alloc: Global, reader: &mut R, out: &mut W) -> Result<(), Fault>

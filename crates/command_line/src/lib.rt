@@ -8,7 +8,6 @@
 mod jobs;
 mod processes;
 mod programs;
-mod streams;
 
 pub use command_words::Job;
 pub use jobs::{Host, perform};

@@ -2,14 +2,14 @@
 
 use crate::programs::main_with;
 use bench_types::{Fault, Pull, Push, Sink, write_text};
-use command_words::{REFUSED, status_of};
+use command_words::{REFUSED, status_of, words_of};
 use std::alloc::AllocGlobal;
 use std::env::Env;
+use std::io;
 use std::io::{Input, Print};
 use std::rt::Files;
 use std::sync::Wait;
 use std::thread::Threads;
-use std::{env, io};
 
 /// Hands the words of the process, its input and its output to `main_with`, and answers the status. A
 /// word that isn't UTF-8 is refused.
@@ -29,9 +29,4 @@ pub fn run_process<H: Env + AllocGlobal + Files + Input + Print + Threads + Wait
     let mut reader = Pull::new(rt.reader());
     let mut out = Push::new(io::writer(rt));
     main_with(rt, alloc, words.as_slice(), &mut reader, &mut out, err)
-}
-
-// The words behind the program's name.
-fn words_of(rt: &(impl Env + AllocGlobal)) -> io::Result<Vec<String>> {
-    Ok(env::args(rt)?.skip(1).collect(rt.alloc())?)
 }

@@ -13,8 +13,10 @@ use crate::jobs::Job;
 use bench_types::limits::MOST_WORKERS;
 use clap::error::ErrorKind;
 use clap::{ArgMatches, Command, Error};
-use std::alloc::Global;
+use std::alloc::{AllocGlobal, Global};
 use std::convert::AsStr;
+use std::env::Env;
+use std::{env, io};
 
 /// Why words ask for no job.
 #[derive(Drop)]
@@ -25,6 +27,12 @@ pub enum NoJob {
     Refused(String),
     /// Memory ran out.
     OutOfMemory,
+}
+
+/// The words of the process behind the program's name. An error is `InvalidData` where one isn't UTF-8, or lack of
+/// memory.
+pub fn words_of(rt: &(impl Env + AllocGlobal)) -> io::Result<Vec<String>> {
+    Ok(env::args(rt)?.skip(1).collect(rt.alloc())?)
 }
 
 /// What the words ask for, without the program's name. Where that is no job, the error says why.

@@ -5,7 +5,7 @@ ghost use Rattle.bench_types.specs.calls.Budget.{IsLawfulBudget};
 ghost use Rattle.model.specs.calls.Tables.{IsCluster};
 ghost use Rattle.node_table.specs.NodeTableView.{kept_table, tables_in};
 ghost use Rattle.model.specs.Runs.{AreWorkers, IsFaultOfWorkers};
-ghost use Rattle.list_order.specs.Carrying.{AreExchanged};
+ghost use Rattle.work.specs.Carrying.{AreExchanged};
 
 use crate::runs::run_list_with;
 use bench_types::{Fault, Record, Rules};

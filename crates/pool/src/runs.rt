@@ -3,7 +3,7 @@
 ghost use Rattle.std.specs.Prelude.{map, IfOk, IfErr, IsOkUnless, MatchResult};
 ghost use Rattle.bench_types.specs.declared.faults.Fault.TheVariants.{OutOfMemory};
 ghost use Rattle.model.specs.Runs.{AreWorkers, IsFaultOfWorkers};
-ghost use Rattle.list_order.specs.Carrying.{MayCarryOut, AreExchanged};
+ghost use Rattle.work.specs.Carrying.{MayCarryOut, AreExchanged};
 ghost use Rattle.pool.specs.inner.Loans.{IsLoanDone, MayBeLent};
 
 use crate::lent::Lent;

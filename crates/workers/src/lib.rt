@@ -21,5 +21,5 @@ mod tasks;
 mod workers;
 
 pub use crew::NoJob;
-pub use list_order::{Batch, Done, FreeGate, Gate, Work};
 pub use posts::Posts;
+pub use work::{Batch, Done, FreeGate, Gate, Work};

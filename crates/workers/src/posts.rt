@@ -3,7 +3,7 @@
 ghost use Rattle.std.specs.Prelude.{◌≡◌, ◌<◌, ◌≤◌, map, vec_len, IfOk, IfErr, IsOkUnless, MatchResult};
 ghost use Rattle.bench_types.specs.declared.faults.Fault.TheVariants.{OutOfMemory};
 ghost use Rattle.model.specs.Runs.{AreWorkers};
-ghost use Rattle.list_order.specs.Carrying.{MayCarryOut, IsBatchDone};
+ghost use Rattle.work.specs.Carrying.{MayCarryOut, IsBatchDone};
 ghost use Rattle.crew.specs.Named.{post_count};
 ghost use Rattle.workers.specs.inner.Outcomes.{ComesTo};
 ghost use Rattle.workers.specs.inner.Works.{MayShareOut};
@@ -12,7 +12,6 @@ use crate::shifts::{close, open};
 use crate::tasks::Task;
 use bench_types::Fault;
 use crew::{Crew, Job, Yard};
-use list_order::{Batch, Done, Gate, Work, exchange_all};
 use model::{Exchanging, MemoryTable};
 use std::alloc::Global;
 use std::marker::Model;
@@ -20,6 +19,7 @@ use std::num::NonZeroUsize;
 use std::sync::Wait;
 use std::thread;
 use std::thread::{Scope, Threads, available_parallelism};
+use work::{Batch, Done, Gate, Work, exchange_all};
 
 // So many looks take some 20 to 100 microseconds, about as long as it takes to wake a thread.
 const LOOKS: u64 = 2000;

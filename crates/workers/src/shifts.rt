@@ -3,7 +3,7 @@
 ghost use Rattle.std.specs.Prelude.{◌≡◌, ◌≤◌, map, IfOk, vec_len};
 ghost use Rattle.std.specs.Arc.{arc_value};
 ghost use Rattle.model.specs.calls.Tables.{IsCluster};
-ghost use Rattle.list_order.specs.Carrying.{MayCarryOut};
+ghost use Rattle.work.specs.Carrying.{MayCarryOut};
 ghost use Rattle.board.specs.Boards.{plan_of};
 ghost use Rattle.crew.specs.Named.{tray_count};
 ghost use Rattle.workers.specs.inner.Gathering.{HasGathered};
@@ -22,12 +22,11 @@ use bench_types::{Fault, Record, Rules};
 use board::{Board, Seat};
 use crew::{Trays, alone};
 use dependencies::Deps;
-use deques::Tasks;
-use list_order::{Batch, Done, Gate};
 use model::{Exchanging, MemoryTable, RoundList};
 use std::alloc::Global;
 use std::snapshot::Snapshot;
 use std::sync::{Arc, Wait};
+use work::{Batch, Done, Gate, Tasks};
 
 /// What the workers of a list share, a task for each of them, and a seat of their board with places for all records.
 #[derive(Drop)]

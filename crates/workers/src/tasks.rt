@@ -7,12 +7,11 @@ ghost use Rattle.workers.specs.inner.Returns.{IsReturned};
 use crate::workers::{Returned, Workshop};
 use board::{Board, Seat};
 use crew::{Label, Trays};
-use deques::Tasks;
-use list_order::Gate;
 use model::{Exchanging, MemoryTable};
 use std::marker::Model;
 use std::snapshot::Snapshot;
 use std::sync::{Arc, Wait};
+use work::{Gate, Tasks};
 
 // What a tray of a list's workers may hold: what comes back of a seat of one part of this board.
 #[derive(Drop)]

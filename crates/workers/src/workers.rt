@@ -8,11 +8,10 @@ use crate::gathering::Stamped;
 use bench_types::{Fault, Rules};
 use board::{Board, Claim, Freed, Hold, Seat};
 use crossbeam_utils::Backoff;
-use deques::Tasks;
-use list_order::Gate;
 use model::{Exchanging, MemoryTable};
 use std::alloc::Global;
 use std::sync::Wait;
+use work::{Gate, Tasks};
 
 /// What all workers of a list share.
 #[derive(Drop)]

@@ -1,8 +1,8 @@
 -- What the workers of one list are lent. Source: this project.
 use Rattle.std.specs.Prelude.{map}
 use Rattle.model.specs.Table.{Table}
-use Rattle.list_order.specs.Carrying.{IsBatchDone, MayCarryOut}
-use Rattle.list_order.specs.declared.works.Done.{Done}
+use Rattle.work.specs.Carrying.{IsBatchDone, MayCarryOut}
+use Rattle.work.specs.declared.works.Done.{Done}
 use Rattle.pool.specs.declared.runs.Loan.{Loan}
 
 -- its batch may be carried out on its tables, and the call be made meanwhile

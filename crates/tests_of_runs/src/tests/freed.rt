@@ -2,7 +2,7 @@
 
 use crate::tests::comparing::expect;
 use bench_types::Fault;
-use deques::Tasks;
+use work::Tasks;
 
 #[test]
 fn what_a_worker_made_ready_goes_first(rt: HostRuntime) -> Result<(), Fault> {

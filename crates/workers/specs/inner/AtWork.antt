@@ -4,7 +4,7 @@ use Rattle.model.specs.Table.{Table}
 use Rattle.board.specs.SeatView.{SeatView}
 use Rattle.board.specs.Boards.{plan_of, seat_view, IsSeatOf}
 use Rattle.board.specs.declared.boards.Board.{Board}
-use Rattle.deques.specs.Pushes.{pushed}
+use Rattle.work.specs.Pushes.{pushed}
 use Rattle.workers.specs.inner.Returns.{HasRecords, SeesTheEnd}
 use Rattle.workers.specs.declared.workers.Worker.{Worker}
 

@@ -10,7 +10,7 @@ use Rattle.workers.specs.inner.Starts.{HasFirstSeat}
 use Rattle.workers.specs.inner.Works.{AreSeveral}
 use Rattle.workers.specs.declared.gathering.Gathered.{Gathered}
 use Rattle.workers.specs.declared.tasks.Shift.{Shift}
-use Rattle.list_order.specs.declared.works.Batch.{Batch}
+use Rattle.work.specs.declared.works.Batch.{Batch}
 
 -- there is a tray for each of several workers, and the first seat of the board that they share
 pub record MayHandOut {T X G : Type 0} (table : T → Table) (fits : X → Table → Type 0) (shift : Shift T X G)

@@ -7,7 +7,7 @@ use Rattle.board.specs.SeatView.{IsWhole}
 use Rattle.board.specs.Plan.{BoardPlan}
 use Rattle.board.specs.Boards.{exchanges_of, plan_of, seat_view}
 use Rattle.board.specs.declared.boards.Board.{Board}
-use Rattle.list_order.specs.declared.works.Done.{Done}
+use Rattle.work.specs.declared.works.Done.{Done}
 use Rattle.workers.specs.inner.Gathering.{HasGathered}
 use Rattle.workers.specs.declared.gathering.Gathered.{Gathered}
 use Rattle.workers.specs.declared.tasks.Shift.{Shift}

@@ -10,12 +10,12 @@ use Rattle.board.specs.Boards.{seat_view, IsMadeOf}
 use Rattle.board.specs.declared.boards.Board.{Board}
 use Rattle.crew.specs.Named.{tray_count}
 use Rattle.workers.specs.inner.Gathering.{HasGathered}
-use Rattle.deques.specs.Pushes.{AreDealt, pushed}
-use Rattle.deques.specs.declared.tasks.Tasks.{Tasks}
+use Rattle.work.specs.Pushes.{AreDealt, pushed}
+use Rattle.work.specs.declared.tasks.Tasks.{Tasks}
 use Rattle.workers.specs.inner.Shifts.{IsShift}
 use Rattle.workers.specs.declared.gathering.Gathered.{Gathered}
 use Rattle.workers.specs.declared.tasks.Shift.{Shift}
-use Rattle.list_order.specs.declared.works.Batch.{Batch}
+use Rattle.work.specs.declared.works.Batch.{Batch}
 
 -- a deque for each worker, to which what is ready of a list was dealt
 pub record AreDealtFor (list : RoundListView) (workers : ℕ) (tasks : Vec Tasks Global) : Type 0 where

@@ -1,9 +1,9 @@
 -- A list that several workers share out. Source: this project.
 use Rattle.std.specs.Prelude.{ℕ, ◌≤◌, List, map}
 use Rattle.limits.specs.declared.TheConstants.{MOST_WORKERS}
-use Rattle.list_order.specs.Carrying.{MayCarryOut}
+use Rattle.work.specs.Carrying.{MayCarryOut}
 use Rattle.model.specs.Table.{Table}
-use Rattle.list_order.specs.declared.works.Batch.{Batch}
+use Rattle.work.specs.declared.works.Batch.{Batch}
 
 -- from two workers up to the most
 abbrev pub AreSeveral : ℕ → Type 0

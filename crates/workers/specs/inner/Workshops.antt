@@ -2,7 +2,7 @@
 use Rattle.std.specs.Prelude.{◌≡◌}
 use Rattle.model.specs.Table.{Table}
 use Rattle.board.specs.Boards.{plan_of}
-use Rattle.list_order.specs.Carrying.{MayCarryOut}
+use Rattle.work.specs.Carrying.{MayCarryOut}
 use Rattle.workers.specs.declared.workers.Workshop.{Workshop}
 
 -- the board is of these rules and of the tables of its list's nodes, which fit what they share

@@ -1,6 +1,6 @@
 use Rattle.workers.proofs.Common.{refl, sym, subst, ◌∙◌}
 use Rattle.std.proofs.lemmas.List.{with_items_is}
-use Rattle.list_order.specs.Carrying.{AreExchanged}
+use Rattle.work.specs.Carrying.{AreExchanged}
 use Rattle.workers.specs.inner.Works.{MayShareOut}
 use Rattle.workers.proofs.posts.carry_out_alone.Goals as goal
 

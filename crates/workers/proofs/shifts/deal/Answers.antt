@@ -1,5 +1,5 @@
 use Rattle.workers.proofs.Common.{length, map, ap, subst, ◌∙◌, first_ready_of}
-use Rattle.deques.specs.Pushes.{AreDealt, pushed}
+use Rattle.work.specs.Pushes.{AreDealt, pushed}
 use Rattle.workers.proofs.shifts.deal.Goals as goal
 
 pub returns : goal.returns

@@ -1,5 +1,5 @@
 use Rattle.workers.proofs.Common.{arith, map, sym, ap, subst, BoardPlan, IsCluster}
-use Rattle.list_order.specs.Carrying.{MayCarryOut}
+use Rattle.work.specs.Carrying.{MayCarryOut}
 use Rattle.workers.specs.inner.Starts.{HasFirstSeat, IsSeated}
 use Rattle.board.specs.Boards.{IsMadeOf}
 use Rattle.workers.specs.inner.Works.{AreSeveral}

@@ -1,8 +1,8 @@
 use Rattle.workers.proofs.Common.{◌≡◌, ℕ, ◌⊎◌, Bool, true, false, arith, [], length, ◌++◌, append_assoc, append-nil, inl, inr, refl, rules, sym, ap, subst, ◌∙◌, Table, SeatView, BoardPlan, plan_of, seat_view, Board, IsSeatOf}
 use Rattle.board.specs.SeatView.{having_seen}
 use Rattle.board.specs.declared.boards.Seat.{Seat}
-use Rattle.deques.specs.Pushes.{pushed}
-use Rattle.deques.specs.declared.tasks.Tasks.{Tasks}
+use Rattle.work.specs.Pushes.{pushed}
+use Rattle.work.specs.declared.tasks.Tasks.{Tasks}
 use Rattle.workers.specs.declared.workers.Worker.{Worker}
 use Rattle.workers.specs.inner.AtWork.{HasWorked, StaysAtWork}
 use Rattle.workers.specs.inner.Returns.{SeesTheEnd}

@@ -5,7 +5,7 @@ use Rattle.board.specs.declared.boards.Seat.{Seat}
 use Rattle.board.specs.Boards.{Claims, IsPutBack}
 use Rattle.board.specs.SeatView.{with_held}
 use Rattle.workers.specs.declared.gathering.Stamped.{Stamped}
-use Rattle.deques.specs.Pushes.{pushed}
+use Rattle.work.specs.Pushes.{pushed}
 use Rattle.workers.specs.declared.workers.Worker.{Worker}
 use Rattle.workers.specs.inner.AtWork.{HasWorked, StaysAtWork}
 use Rattle.workers.specs.inner.Returns.{HasDone, HasRecords, IsRecordOf, AreRecordsOf}

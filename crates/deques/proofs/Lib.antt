@@ -1,3 +1,0 @@
-pub mod Moves
-pub mod Dealing
-pub mod Common

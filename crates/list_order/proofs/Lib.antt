@@ -1,3 +1,0 @@
-pub mod Pairs
-pub mod Turns
-pub mod Common

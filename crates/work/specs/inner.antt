@@ -1,0 +1,2 @@
+pub mod Deques
+pub mod Turns

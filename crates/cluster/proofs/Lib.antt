@@ -4,4 +4,5 @@ pub mod Ahead
 pub mod Begins
 pub mod Opening
 pub mod Standing
+pub mod Lent
 pub mod Common

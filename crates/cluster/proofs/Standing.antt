@@ -1,5 +1,5 @@
 -- What holds of all nodes at the beginning, and still holds after exchanges, restarts and writes.
--- Serves the functions of `clusters` and `starts` and `played_rounds`.
+-- Serves `Cluster::opened`, `begin_nodes`, `histories_of`, `restart`, `Lent` and `played_rounds`.
 use Rattle.cluster.proofs.Common.{◌≡◌, ℕ, both_ways, any_restart_now, restarts_now, restarts-any, restarts-forgets, ◌+◌, ◌-◌, ◌<◌, ◌≤◌, Bool, true, false, if◌then◌else◌, All, List, [], ◌∷◌, ◌++◌, length, map, inl, inr, refl, sym, ap, ◌∙◌, subst, arith, length-append, cases_lt, append_assoc, append-nil, get_or_past, length-map, All-nil, length-map-range_with_len, Entry, Mark, AreNextAfter, LEAST_KEYS, MOST_NODES, MOST_KEYS, Table, empty_table, entry_at, greatest_mark, with_own_write, with_own_writes, without_others, without_all, IsProper, entry_at-without_all, entry_at-without_others_own, greatest_mark-empty_table, greatest_mark-without_all, greatest_mark-without_others_own, proper-empty_table, proper-without_all, proper-without_others, OwnWrite, generation_upto, forgets_now, count_before, own_writes, writes_upto, written_upto, born_in, writes_before, generation_upto-same, generation_upto-next, next-own_writes, length-writes_before, writes_before-grown, writes_upto-grown, written_upto-grown, Settings, OwnerListView, all_writes, entries_of, no_writes, begun_generation, list_of_owner, write_of_entry, own_part-empty, KeepsOwn, KeepOwnParts, own_list, BirthsRise, AreWrittenBy, HistoriesView, StandsBeside, StaysBesideLists, table_of_node, AreProper, generation-written, table_of_node-made, still_table_of}
 use Rattle.cluster.specs.Rounds.{opening_tables, after_restart}
 use Rattle.cluster.proofs.Written.{born_upto, births_rise, may_write_each}

@@ -7,8 +7,8 @@ ghost use Rattle.round_histories.specs.Histories.{AreNewHistories};
 ghost use Rattle.cluster.specs.Rounds.{opening_tables};
 ghost use Rattle.cluster.specs.calls.Clusters.{IsAfterRound, IsBefore, IsUnderWay};
 
-use crate::plans::Drawn;
-use crate::starts::{Begun, begin};
+use crate::plans::{Drawn, Plan, RoundOf};
+use crate::starts::{Begun, Start, begin_nodes};
 use bench_types::Fault;
 use model::MemoryTable;
 use round_histories::{Resources, RoundHistories, Shares, empty_tables, empty_tables_by};
@@ -90,20 +90,42 @@ impl<T: MemoryTable, K: RoundHistories<T>> Cluster<T, K> {
         ensures only { IsOkUnless result OutOfMemory }
     {
         let mut cluster = self;
-        let begun = begin(
-            resources,
+        let plan = cluster.drawn.plan(resources, RoundOf { scenario, round })?;
+        let start = Start {
             scenario,
             round,
-            cluster.drawn,
+            plan: &plan,
+        };
+        let begun = begin_nodes(
+            resources,
+            &start,
             &mut cluster.tables,
             &mut cluster.histories,
-        )?;
+        );
+        let counts = match begun {
+            Ok(counts) => counts,
+            Err(fault) => {
+                drop(plan);
+                return Err(fault);
+            }
+        };
+        let Plan {
+            words,
+            list,
+            writes,
+            ..
+        } = plan;
+        drop(writes);
         Ok(UnderWay {
             scenario,
             round,
             tables: cluster.tables,
             histories: cluster.histories,
-            begun,
+            begun: Begun {
+                list,
+                words,
+                counts,
+            },
         })
     }
 }

@@ -6,5 +6,5 @@ mod plans;
 mod starts;
 
 pub use clusters::{Cluster, UnderWay};
-pub use plans::{Drawn, Plan, next_plan};
+pub use plans::{Drawn, Plan, RoundOf, next_plan};
 pub use starts::Begun;

@@ -14,6 +14,13 @@ use scenario::Scenario;
 use std::alloc::Global;
 use std::thread::Threads;
 
+/// A round of a scenario.
+#[derive(Clone, Copy)]
+pub struct RoundOf<'a> {
+    pub scenario: &'a Scenario,
+    pub round: u32,
+}
+
 /// The words of a round, whether any node restarts in it, its list, and by node what is written in it, where that is
 /// worked out beforehand.
 #[derive(Drop)]
@@ -27,23 +34,23 @@ pub struct Plan {
 // What each node writes in a round, where it is told how many writes of its generation each has made before.
 fn writes_of(
     alloc: Global,
-    scenario: &Scenario,
-    round: u32,
+    of: RoundOf,
     words: &RunWords,
     counts: Option<&[u32]>,
 ) -> Result<Option<Vec<Writes>>, Fault>
-    requires first { 1 ≤ round }
-    requires last { round ≤ MOST_ROUNDS }
-    requires words { words.now ≡ run_words_of scenario.now round }
-    requires counts { IfSome counts (λ counts. AreCountsAfter scenario.now (round - 1) counts.now) }
+    requires first { 1 ≤ of.round }
+    requires last { of.round ≤ MOST_ROUNDS }
+    requires words { words.now ≡ run_words_of of.scenario.now of.round }
+    requires counts { IfSome counts (λ counts. AreCountsAfter of.scenario.now (of.round - 1) counts.now) }
     ensures writes { IfOk result
-        (λ writes. IfSome writes (λ v. AreWritesOfAll scenario.now round v.items)) }
+        (λ writes. IfSome writes (λ v. AreWritesOfAll of.entry.scenario.now of.entry.round v.items)) }
     ensures told { IfOk result (λ writes. is_some writes ≡ is_some counts.entry) }
     ensures only { IsOkUnless result OutOfMemory }
 {
     let Some(before) = counts else {
         return Ok(None);
     };
+    let RoundOf { scenario, round } = of;
     let mut writes = Vec::with_capacity(alloc, before.len())?;
     for node in 0..scenario.nodes() {
         let count = if forgets_now(scenario, node, round) {
@@ -70,20 +77,17 @@ impl Drawn {
     pub(crate) fn plan(
         self,
         resources: &Resources<impl Threads + Sync>,
-        scenario: &Scenario,
-        round: u32,
+        of: RoundOf,
     ) -> Result<Plan, Fault>
-        requires first { 1 ≤ round }
-        requires last { round ≤ MOST_ROUNDS }
-        requires before { IsDrawnAfter scenario.now (round - 1) self }
-        ensures plan { IfOk result (IsPlanOf scenario.now round) }
+        requires first { 1 ≤ of.round }
+        requires last { of.round ≤ MOST_ROUNDS }
+        requires before { IsDrawnAfter of.scenario.now (of.round - 1) self }
+        ensures plan { IfOk result (IsPlanOf of.entry.scenario.now of.entry.round) }
         ensures only { IsOkUnless result OutOfMemory }
     {
         match self {
             Drawn::Next(plan) => Ok(plan),
-            Drawn::Words(words) => {
-                next_plan(words, resources.rt, resources.alloc, scenario, round, None)
-            }
+            Drawn::Words(words) => next_plan(words, resources.rt, resources.alloc, of, None),
         }
     }
 }
@@ -94,24 +98,23 @@ pub fn next_plan(
     mut words: RunWords,
     rt: &(impl Threads + Sync),
     alloc: Global,
-    scenario: &Scenario,
-    round: u32,
+    of: RoundOf,
     counts: Option<&[u32]>,
 ) -> Result<Plan, Fault>
-    requires first { 1 ≤ round }
-    requires last { round ≤ MOST_ROUNDS }
-    requires words { words ≡ run_words_of scenario.now (round - 1) }
-    requires counts { IfSome counts (λ counts. AreCountsAfter scenario.now (round - 1) counts.now) }
-    ensures plan { IfOk result (IsPlanOf scenario.now round) }
+    requires first { 1 ≤ of.round }
+    requires last { of.round ≤ MOST_ROUNDS }
+    requires words { words ≡ run_words_of of.scenario.now (of.round - 1) }
+    requires counts { IfSome counts (λ counts. AreCountsAfter of.scenario.now (of.round - 1) counts.now) }
+    ensures plan { IfOk result (IsPlanOf of.entry.scenario.now of.entry.round) }
     ensures told { IfOk result (λ plan. is_some plan.writes ≡ is_some counts.entry) }
     ensures only { IsOkUnless result OutOfMemory }
 {
     words.next_round();
-    let list = round_list_by(rt, alloc, scenario, round, &words)?;
-    let writes = writes_of(alloc, scenario, round, &words, counts)?;
+    let list = round_list_by(rt, alloc, of.scenario, of.round, &words)?;
+    let writes = writes_of(alloc, of, &words, counts)?;
     Ok(Plan {
         words,
-        any_restart: any_restart_now(scenario, round),
+        any_restart: any_restart_now(of.scenario, of.round),
         list,
         writes,
     })

@@ -3,18 +3,17 @@
 ghost use Rattle.std.specs.Prelude.{◌≡◌, ◌+◌, ◌-◌, ◌≤◌, ◌&&◌, nat_lt, is_some, length, map, IfOk, IfSome, OnOk, IsOkUnless};
 ghost use Rattle.bench_types.specs.declared.faults.Fault.TheVariants.{OutOfMemory};
 ghost use Rattle.limits.specs.declared.TheConstants.{MOST_ROUNDS};
-ghost use Rattle.round_plan.specs.Plan.{round_list_of};
 ghost use Rattle.cluster.specs.Rounds.{after_restart};
-ghost use Rattle.cluster.specs.inner.InMemory.{HasBegun, IsBeforeRound, IsBegun, IsOwnerIn, IsRestartedIn, IsWritten, MayWriteNow, WritesIn};
+ghost use Rattle.cluster.specs.inner.InMemory.{HasBegun, IsBeforeRound, IsBegun, IsOwnerIn, IsRestartedIn, WritesIn};
 ghost use Rattle.cluster.specs.calls.Clusters.{HaveEnded, IsRoundOf, TablesStand};
-ghost use Rattle.cluster.specs.calls.Plans.{AreCountsAfter, IsDrawnAfter, IsPlanOf, MayDraw};
+ghost use Rattle.cluster.specs.calls.Plans.{AreCountsAfter, IsPlanOf};
 ghost use Rattle.cluster.specs.inner.Steps.{counted_in, LeavesOthers, MayWriteOwn};
 
-use crate::plans::{Drawn, Plan};
+use crate::plans::Plan;
 use bench_types::Fault;
 use model::{MemoryTable, RoundList};
 use round_histories::{Resources, RoundHistories};
-use round_plan::{OwnWrite, RunWords, Writes, forgets_now, restarts_now, writes_by};
+use round_plan::{OwnWrite, RunWords, forgets_now, restarts_now, writes_by};
 use scenario::Scenario;
 use std::thread::Threads;
 
@@ -27,63 +26,17 @@ pub struct Begun {
     pub counts: Option<Vec<u32>>,
 }
 
-/// A round begins, of tables and histories: its restarts and its writes are made.
-pub(crate) fn begin<T: MemoryTable, K: RoundHistories<T>>(
-    resources: &Resources<impl Threads + Sync>,
-    scenario: &Scenario,
-    round: u32,
-    drawn: Drawn,
-    tables: &mut [T],
-    histories: &mut K,
-) -> Result<Begun, Fault>
-    requires round { IsRoundOf K.may_write scenario.now round }
-    requires drawn { IsDrawnAfter scenario.now (round - 1) drawn }
-    requires ended { HaveEnded scenario.now (round - 1) (K.kept histories.old) }
-    requires standing { TablesStand T.table K.kept scenario.now (round - 1) tables.old histories.old }
-    ensures begun { OnOk result
-        (HasBegun T.table K.kept K.fits scenario.now round tables.old tables.new histories.new) }
-    ensures list { IfOk result (λ begun. begun.list ≡ round_list_of scenario.now round) }
-    ensures may_draw { IfOk result (λ begun. MayDraw scenario.now round begun.words begun.counts) }
-    ensures only { IsOkUnless result OutOfMemory }
-{
-    let plan = drawn.plan(resources, scenario, round)?;
-    let start = Start {
-        scenario,
-        round,
-        plan: &plan,
-    };
-    let counts = match begin_nodes(resources, &start, tables, histories) {
-        Ok(counts) => counts,
-        Err(fault) => {
-            drop(plan);
-            return Err(fault);
-        }
-    };
-    let Plan {
-        words,
-        list,
-        writes,
-        ..
-    } = plan;
-    drop(writes);
-    Ok(Begun {
-        list,
-        words,
-        counts,
-    })
-}
-
-// A round that begins, and its plan.
+/// A round that begins, and its plan.
 #[derive(Clone, Copy)]
-struct Start<'a> {
-    scenario: &'a Scenario,
-    round: u32,
-    plan: &'a Plan,
+pub(crate) struct Start<'a> {
+    pub scenario: &'a Scenario,
+    pub round: u32,
+    pub plan: &'a Plan,
 }
 
-// What a round begins with: its restarts and its writes, by node; and then how many writes of its generation each node
-// has made, where the next round is to be drawn meanwhile.
-fn begin_nodes<T: MemoryTable, K: RoundHistories<T>>(
+/// What a round begins with: its restarts and its writes, by node; and then how many writes of its generation each node
+/// has made, where the next round is to be drawn meanwhile.
+pub(crate) fn begin_nodes<T: MemoryTable, K: RoundHistories<T>>(
     resources: &Resources<impl Threads + Sync>,
     start: &Start,
     tables: &mut [T],
@@ -128,34 +81,14 @@ fn begin_node<T: MemoryTable, K: RoundHistories<T>>(
 {
     restart(start, node, table, histories);
     match &start.plan.writes {
-        Some(writes) => write_round(start, node, table, histories, &writes[node as usize]),
+        Some(writes) => write_own(table, histories, writes[node as usize].as_slice()),
         None => {
             let count = histories.count(node);
             let words = start.plan.words.of_node(node);
             let writes = writes_by(start.scenario, node, start.round, count, words);
-            write_round(start, node, table, histories, &writes)
+            write_own(table, histories, writes.as_slice())
         }
     }
-}
-
-// The writes of a node in a round, after its restarts.
-fn write_round<T: MemoryTable, K: RoundHistories<T>>(
-    start: &Start,
-    node: u32,
-    table: &mut T,
-    histories: &mut K,
-    writes: &Writes,
-) -> Result<(), Fault>
-    requires round { IsRoundOf K.may_write start.now.scenario.now start.now.round }
-    requires now { MayWriteNow T.table K.kept start.now.scenario.now start.now.round node table.old histories.old
-        writes.now }
-    ensures owner { OnOk result
-        (IsOwnerIn T.table K.kept start.now.scenario.now start.now.round node table.new histories.new) }
-    ensures table { OnOk result (IsWritten T.table start.now.scenario.now start.now.round node table.old table.new) }
-    ensures others { OnOk result (LeavesOthers node (K.kept histories.old) (K.kept histories.new)) }
-    ensures only { IsOkUnless result OutOfMemory }
-{
-    write_own(table, histories, writes.as_slice())
 }
 
 // How many writes of its generation each owner has made, where the next round is to be drawn while this one is under

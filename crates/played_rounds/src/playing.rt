@@ -11,7 +11,7 @@ ghost use Rattle.played_rounds.specs.calls.Playing.{IsPlayed, MayPlay, Plays};
 
 use crate::rounds::Round;
 use bench_types::{Fault, Rules};
-use cluster::{Begun, Cluster, Drawn, UnderWay, next_plan};
+use cluster::{Begun, Cluster, Drawn, RoundOf, UnderWay, next_plan};
 use crew::Crew;
 use model::{MemoryTable, RoundList};
 use round_histories::{Counted, Resources, RoundHistories};
@@ -91,8 +91,11 @@ fn carry_out<
         let Some(counts) = counts else {
             return Ok(Drawn::Words(words));
         };
-        let next = next_plan(words, rt, alloc, scenario, round + 1, Some(&counts))?;
-        Ok(Drawn::Next(next))
+        let next = RoundOf {
+            scenario,
+            round: round + 1,
+        };
+        Ok(Drawn::Next(next_plan(words, rt, alloc, next, Some(&counts))?))
     };
     let done = posts.carry_out(rt, batch, under_way.tables, draw)?;
     end_round(resources, posts, round, list, done)

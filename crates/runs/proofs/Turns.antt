@@ -1,5 +1,5 @@
 -- How far the rounds of a scenario have been carried out and written.
--- Serves the functions of `rounds` and `sizes`, `Comparison` and `Reporting`.
+-- Serves `write_all`, `write_over`, `write_rounds`, `Comparison` and `Reporting`.
 use Rattle.runs.proofs.Common.{◌≡◌, ℕ, ◌+◌, ◌<◌, ◌≤◌, Result, Ok, Err, inl, inr, refl, sym, ap, subst, arith, add-one, IsErrAnd, Fault, Table, IsFaultOfWorkers, Settings, RoundView, played_of}
 use Rattle.runs.specs.Runs.{IsFaultInRounds}
 use Rattle.std.specs.Prelude.{◌⊎◌}

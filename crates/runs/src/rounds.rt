@@ -2,7 +2,6 @@
 
 ghost use Rattle.std.specs.Prelude.{◌≡◌, OnOk, IfOk, IfErr};
 ghost use Rattle.cluster.specs.calls.Standing.{MayWriteAll};
-ghost use Rattle.cluster.specs.calls.Clusters.{IsAfterRound};
 ghost use Rattle.played_rounds.specs.calls.Playing.{MayPlay};
 ghost use Rattle.runs.specs.inner.Rounds.{AnswersRounds, AreWrittenInTurn, IsFaultInTurn, StopsNext, WritesNext};
 
@@ -131,18 +130,11 @@ fn write_by<
     requires may_write { MayWriteAll K.may_write scenario }
     ensures { AnswersRounds O.wrote O.stops scenario output.old output.new posts.now result }
 {
-    // (there is a first round, for which memory may be lacking)
-    let _rounds = scenario.rounds();
-    let cluster = Cluster::new_by(
-        resources.rt,
-        resources.alloc,
-        &scenario,
-        resources.hands.workers,
-    )?;
-    write_all(resources, posts, cluster, &scenario, output)?;
+    write_all(resources, posts, &scenario, output)?;
     Ok(scenario)
 }
 
+// The tables are opened, and each round is carried out and written.
 fn write_all<
     T: MemoryTable + Send + Sync,
     K: RoundHistories<T>,
@@ -151,15 +143,17 @@ fn write_all<
 >(
     resources: &Resources<H>,
     posts: &Posts<T, K, FreeGate, K::Job>,
-    mut cluster: Cluster<T, K>,
     scenario: &Scenario,
     output: &mut O,
 ) -> Result<(), Fault>
-    requires may_write { MayWriteAll K.may_write scenario.now }
-    requires opened { IsAfterRound T.table K.kept scenario.now 0 cluster }
+    requires { MayWriteAll K.may_write scenario.now }
     ensures written { OnOk result (AreWrittenInTurn O.wrote scenario.now output.old output.new scenario.now.rounds) }
     ensures fault { IfErr result (IsFaultInTurn O.wrote O.stops scenario.now output.old output.new posts.now) }
 {
+    // (there is a first round, for which memory may be lacking)
+    let _rounds = scenario.rounds();
+    let Resources { rt, alloc, hands } = *resources;
+    let mut cluster = Cluster::new_by(rt, alloc, scenario, hands.workers)?;
     for done in 0..scenario.rounds() {
         let next = NextRound {
             cluster,

@@ -7,5 +7,5 @@ next_round-requires g c = omega (arith, ap (λ (v : RunWordsView). v.round) c.re
 -- the words of the round
 pub round_list_by-requires-clause-words : goal.round_list_by-requires-clause-words
 round_list_by-requires-clause-words g c _ _ =
-    let e : c.args.round - 1 + 1 ≡ c.args.round = omega (arith, c.requires.first) in
-    c.next_round.ensures ∙ ap (λ (v : RunWordsView). record v { round = v.round + 1 }) c.requires.words ∙ ap (run_words_of c.args.scenario.now) e
+    let e : c.args.of.round - 1 + 1 ≡ c.args.of.round = omega (arith, c.requires.first) in
+    c.next_round.ensures ∙ ap (λ (v : RunWordsView). record v { round = v.round + 1 }) c.requires.words ∙ ap (run_words_of c.args.of.scenario.now) e

@@ -8,13 +8,13 @@ told : {X : Type 0} (P : X → Type 0) {o : Option X} {x : X} → o ≡ Some x �
 told P is p = subst (λ o. IfSome o P) is p
 
 -- how many there were before
-counted : (c : goal.After-push_reserved) → c.if-forgets_now.count ≡ length (writes_before c.args.scenario.now c.loop-node.node c.args.round)
+counted : (c : goal.After-push_reserved) → c.if-forgets_now.count ≡ length (writes_before c.args.of.scenario.now c.loop-node.node c.args.of.round)
 counted c =
-    let s = c.args.scenario.now in
+    let s = c.args.of.scenario.now in
     let n = c.loop-node.node in
     let counts = c.in-Some.before.now in
     let below : n < s.nodes = omega (arith, c.loop-node-test.true, c.nodes-node-end.ensures.value) in
-    let before = counted_before s n c.args.round counts c.requires.first below (told _ c.in-Some.is c.requires.counts) in
+    let before = counted_before s n c.args.of.round counts c.requires.first below (told _ c.in-Some.is c.requires.counts) in
     elim c.if-forgets_now.branch [
       | then-forgets_now w ↦ w.count-is ∙ ap (λ b. if b then 0 else get_or counts n 0) w.if-forgets_now.ensures ∙ before
       | else-forgets_now w ↦ w.count-is ∙ ap (λ b. if b then 0 else get_or counts n 0) w.if-forgets_now.ensures ∙ before
@@ -27,9 +27,9 @@ writes_by-requires-clause-fits c =
 
 pub loop-node-preserved : goal.loop-node-preserved
 loop-node-preserved c = (
-  subst (AreWritesUpto c.args.scenario.now c.args.round (c.loop-node.node + 1)) (sym c.push_reserved.ensures.items)
+  subst (AreWritesUpto c.args.of.scenario.now c.args.of.round (c.loop-node.node + 1)) (sym c.push_reserved.ensures.items)
       (writes_more c.loop-node.invariant.0
-      (subst (λ k. AreWritesOf c.args.scenario.now c.loop-node.node c.args.round k c.writes_by.result) (counted c) c.writes_by.ensures)),
+      (subst (λ k. AreWritesOf c.args.of.scenario.now c.loop-node.node c.args.of.round k c.writes_by.result) (counted c) c.writes_by.ensures)),
   c.push_reserved.ensures.capacity ∙ c.loop-node.invariant.1,
 )
 

@@ -13,7 +13,8 @@ from shared import TOP, Text, holds, small_files
 
 # The crates, with those that each stands on, and what is needed of scripts.
 CRATES = {"low": "", "left": "low", "right": "low", "gossip_bench": "left right"}
-COPIED = "gossip_bench", *(f"scripts/{it}" for it in ("build", "shared.py", "toolchain.py", "try_edits"))
+COPIED = "gossip_bench", *(f"scripts/{it}" for it in ("build", "shared.py", "toolchain.py", "try_edits",
+                                                      "texts/seconds.txt"))
 COMMANDS = ("sh", "env", "python3", "find", "cksum", "sort", "cat", "dirname", "readlink", "mv", "rm", "sleep")
 LONG_AGO = 1_000_000_000
 # What is said of a proof that takes long, as each may on a busy machine.
@@ -34,7 +35,7 @@ class Toy:
         self.bare.mkdir()
         for name in COMMANDS:
             (self.bare / name).symlink_to(shutil.which(name))
-        (self.top / "scripts").mkdir(parents=True)
+        (self.top / "scripts" / "texts").mkdir(parents=True)
         for name in COPIED:
             shutil.copy(TOP / name, self.top / name)
         (self.top / "HANDLES").write_text("Handles allowed: none.\n")

@@ -1,6 +1,5 @@
 //! The modules of tests, and what they share.
 
-mod above_marks;
 mod byte_ends;
 mod comparing;
 mod deltas;

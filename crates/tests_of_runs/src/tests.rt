@@ -1,6 +1,5 @@
 //! The modules of tests, and what they share.
 
-mod broken_simulations;
 mod comparing;
 mod crews;
 mod crowded_steps;

@@ -1,8 +1,11 @@
-/* Preloaded before a program (LD_PRELOAD), this refuses some of its calls of the C library. Two variables say which:
+/* Preloaded before a program (LD_PRELOAD), this refuses some of its calls of the C library. Variables say which:
 
      REFUSED  CALL HOW FIRST LAST: the calls FIRST to LAST of a kind, counted from 1 and from the begin of main. CALL is
               growth, read, write or thread, or main: a growth of the thread that begins main. HOW is fails, or short: a
               read or write of one byte; or slow: none is refused, but other threads wake late from each wait.
+     SERVES   in place of REFUSED: the number of an open socket. For each text that comes there, a process of its own
+              goes on to main as if REFUSED were this text, with all of the standard input in a pipe, and has a minute.
+              Its wait status is sent back. So a program is loaded once for many runs
      TOLD     the number of an open file, which is told at the end how often each was called and how many were refused;
               of threads, how many there were before one was started, how many were started, how many of these were
               joined or detached, how often one waited when the program ended or called something later, and how many
@@ -12,7 +15,6 @@
    A thread of a scope detaches itself once the scope has counted it out, and has a second for that. It needs no other
    call. What comes before main, and what the threads of a program do in turn, is counted as it comes. */
 #define _GNU_SOURCE
-#include <dirent.h>
 #include <dlfcn.h>
 #include <errno.h>
 #include <linux/futex.h>
@@ -23,7 +25,9 @@
 #include <stdio.h>
 #include <stdlib.h>
 #include <string.h>
+#include <sys/stat.h>
 #include <sys/syscall.h>
+#include <sys/wait.h>
 #include <unistd.h>
 
 extern void *__libc_malloc(size_t), *__libc_calloc(size_t, size_t), *__libc_realloc(void *, size_t);
@@ -44,20 +48,62 @@ static atomic_long started, let_go, waiting, late;
 static atomic_bool ends;
 static long around_starts[128];
 static int told_of_starts;
+/* (a pipe takes so much) */
+static char given[1 << 16], asked[64];
+
+static void must(bool is_so) {
+    if (!is_so) call_system(SYS_exit_group, 1);
+}
+
+static size_t all_of_input(void) {
+    size_t size = 0;
+    for (long more; (more = call_system(SYS_read, 0, given + size, sizeof given - size)) != 0; size += more)
+        must(more > 0);
+    must(size < sizeof given);
+    return size;
+}
+
+static void begin_run(int socket, size_t size) {
+    int ends[2];
+    alarm(60);
+    must(pipe(ends) == 0 && call_system(SYS_write, ends[1], given, size) == (long)size);
+    must(dup2(ends[0], 0) == 0);
+    close(ends[0]);
+    close(ends[1]);
+    close(socket);
+}
+
+/* Ends with the socket. It returns in the process of each run, with the text that asks for this. */
+static const char *serve(int socket) {
+    size_t size = all_of_input();
+    for (;;) {
+        long length = call_system(SYS_read, socket, asked, sizeof asked - 1);
+        if (length == 0) call_system(SYS_exit_group, 0);
+        must(length > 0);
+        asked[length] = 0;
+        pid_t run = fork();
+        if (run == 0) return begin_run(socket, size), asked;
+        int status;
+        must(run > 0 && waitpid(run, &status, 0) == run && dprintf(socket, "%d", status) > 0);
+    }
+}
+
+static void refuse(const char *text) {
+    char call[8], how[8];
+    if (!text || sscanf(text, "%7s %7s %ld %ld", call, how, &first, &last) != 4) return;
+    for (which = 0; which < CALLS && strcmp(call, names[which]); which++) {}
+    is_short = strcmp(how, "short") == 0;
+    is_slow = strcmp(how, "slow") == 0;
+}
 
 __attribute__((constructor)) static void begin(void) {
-    char call[8], how[8];
-    const char *text = getenv("REFUSED");
-    if (text && sscanf(text, "%7s %7s %ld %ld", call, how, &first, &last) == 4) {
-        for (which = 0; which < CALLS && strcmp(call, names[which]); which++) {}
-        is_short = strcmp(how, "short") == 0;
-        is_slow = strcmp(how, "slow") == 0;
-    }
     create = dlsym(RTLD_NEXT, "pthread_create");
     join = dlsym(RTLD_NEXT, "pthread_join");
     detach = dlsym(RTLD_NEXT, "pthread_detach");
     call_system = dlsym(RTLD_NEXT, "syscall");
     begins_main = pthread_self();
+    const char *serves = getenv("SERVES");
+    refuse(serves ? serve(atoi(serves)) : getenv("REFUSED"));
     counts = true;
 }
 
@@ -118,12 +164,9 @@ long syscall(long number, ...) {
 }
 
 static int threads(void) {
-    int count = -2; /* (. and .. are none) */
-    DIR *tasks = opendir("/proc/self/task");
-    if (!tasks) return 0;
-    while (readdir(tasks)) count++;
-    closedir(tasks);
-    return count;
+    struct stat tasks;
+    /* (two of its links are those of a folder without others) */
+    return stat("/proc/self/task", &tasks) ? 0 : (int)tasks.st_nlink - 2;
 }
 
 static void note_start(void) {
@@ -131,11 +174,7 @@ static void note_start(void) {
 }
 
 int pthread_create(pthread_t *made_thread, const pthread_attr_t *how, void *(*run)(void *), void *with) {
-    if (!before) {
-        counts = false;
-        before = threads();
-        counts = true;
-    }
+    if (!before) before = threads();
     if (is_refused(THREAD)) return EAGAIN;
     note_start();
     int answer = create(made_thread, how, run, with);
@@ -161,9 +200,8 @@ void _exit(int status) {
     counts = false;
     ends = true;
     late += waiting;
-    if (!before) before = threads();
     int left = threads();
-    /* (a look at threads that are ending may miss some) */
+    if (!before) before = left;
     for (int looks = 0; looks < 1000 && (left > 1 || let_go < started); looks++) {
         usleep(1000);
         left = threads();

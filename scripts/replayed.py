@@ -1,15 +1,58 @@
 """Scenarios as runs of tools/replay.py, for the scripts that try laws: their rows, their exchanges and what nodes hold;
 and the trials of laws, by kinds. REPLAY names another replay.py."""
 import csv
+import functools
 import os
 import sys
+import tempfile
 from collections import Counter, defaultdict
+from pathlib import Path
 
 import shared
 from shared import TOP, Room
 from gossip_tools import scenario
 
 REPLAY = os.environ.get("REPLAY", TOP / "tools" / "replay.py")
+
+
+@functools.cache
+def code():
+    return compile(Path(REPLAY).read_bytes(), REPLAY, "exec")
+
+
+def carry_out(words, files):
+    """Goes through replay.py, as a Python does that is started with it, with these words and with files as streams, and
+    ends the process."""
+    status = 1
+    try:
+        for number, file in enumerate(files):
+            os.dup2(file.fileno(), number)
+        sys.argv = [str(REPLAY), *map(str, words)]
+        exec(code(), {"__name__": "__main__"})
+    except SystemExit as ended:
+        status = ended.code if isinstance(ended.code, int) else 1
+    except BaseException:
+        sys.excepthook(*sys.exc_info())
+    finally:
+        os._exit(status)
+
+
+def replayed(text, *words):
+    """The status, standard output and standard error of replay.py in a process of its own: a fork of this one, as to
+    start Python takes longer than a small scenario does."""
+    with tempfile.TemporaryFile() as given, tempfile.TemporaryFile() as out, tempfile.TemporaryFile() as err:
+        given.write(text)
+        given.seek(0)
+        code()
+        # (so that nothing is printed by both)
+        sys.stdout.flush()
+        child = os.fork()
+        if not child:
+            carry_out(words, (given, out, err))
+        status = os.waitstatus_to_exitcode(os.waitpid(child, 0)[1])
+        for it in (out, err):
+            it.seek(0)
+        return status, out.read(), err.read()
 
 
 def holds(kind, name, is_so):
@@ -61,10 +104,10 @@ class Run:
     def replay(self):
         with Room() as room:
             words = ["run", "--trace", room / "trace", "--tables", room / "tables"]
-            status, out, err = shared.ran(sys.executable, REPLAY, *words, given=self.text())
+            status, out, err = replayed(self.text().encode(), *words)
             if status:
-                sys.exit(err)
-            texts = out, (room / "trace").read_text(), (room / "tables").read_text()
+                sys.exit(err.decode())
+            texts = out.decode(), (room / "trace").read_text(), (room / "tables").read_text()
         report, trace, tables = (csv.DictReader(it.splitlines()) for it in texts)
         self.rows = {int(it["round"]): {name: int(value) for name, value in it.items()} for it in report}
         self.exchanges, self.held = defaultdict(list), defaultdict(lambda: defaultdict(dict))

@@ -25,8 +25,7 @@ class Folder:
 
     def __init__(self, path, scenario, runs, program):
         self.path, self.scenario, self.runs, self.program = path, scenario, runs, f"{program}\n"
-        tops, self.changed = {name: read.settings(text) for name, text in runs.items()}, set()
-        self.lengths = {name: (it["format"], it["rounds"]) for name, it in tops.items()}
+        self.lengths, self.changed = {name: read.length_of(text) for name, text in runs.items()}, set()
 
     @contextlib.contextmanager
     def held(self):
@@ -94,7 +93,7 @@ class Folder:
         part, report = self.part(name), self.path / f"{name}.csv"
         try:
             content = part.read_bytes()
-            read.rows_of(content, *self.lengths[name])
+            read.look_at(content, *self.lengths[name])
             # (in this order, as a report whose sum is another is made again)
             contents = {f"{name}.toml": self.runs[name].encode(), report.name: content}
             files.put(report.with_suffix(".sum"), files.check_sums(contents))

@@ -84,7 +84,8 @@ def reports(runs, program, fanout):
         refuse_if(answer.returncode, say("bench_failed", label=name, status=answer.returncode,
                                          told=answer.stderr.decode(errors="replace").strip()), 1)
         try:
-            rows = read.rows_of(answer.stdout, top["format"], top["rounds"])
+            read.look_at(answer.stdout, top["format"], top["rounds"])
+            rows = read.rows_of(answer.stdout, top["format"])
         except read.NotWhole as lacks:
             raise Refused(say("no_report", label=name, lacks=lacks), 1) from None
         found.append(intervals(rows, fanout))

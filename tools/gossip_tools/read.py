@@ -1,4 +1,5 @@
 """Reports and what they say of some rounds; the tool gossip_read."""
+import functools
 import pathlib
 import re
 import tomllib
@@ -31,8 +32,15 @@ def settings(text):
         raise Refused(say("not_toml", error=error)) from None
 
 
-def rows_of(content, form, rounds):
-    """The rows of a report, in numbers, where it is that of a scenario of this format with so many rounds."""
+@functools.lru_cache(maxsize=1024)
+def length_of(text):
+    """The format and the rounds of a scenario, each None where it has none. Steps that go on ask for it again."""
+    top = settings(text)
+    return top.get("format"), top.get("rounds")
+
+
+def look_at(content, form, rounds):
+    """Looks whether a report is that of a scenario of this format with so many rounds."""
     NotWhole.where(not content, "empty")
     NotWhole.where(not content.isascii(), "other_bytes")
     header, (first, _, rest) = COLUMNS[form], content.decode().partition("\n")
@@ -41,25 +49,30 @@ def rows_of(content, form, rounds):
     NotWhole.where(len(lines) < rounds, "short", lines=len(lines), rounds=rounds)
     NotWhole.where(len(lines) > rounds or last, "long", rounds=rounds)
     line = re.compile(",".join(["[0-9]{1,18}"] * len(header)))
-    for at, it in enumerate(lines, 1):
-        NotWhole.where(not line.fullmatch(it) or int(it.partition(",")[0]) != at, "line", round=at)
-    return [dict(zip(header, map(int, it.split(",")))) for it in lines]
+    wrong = (at for at, it in enumerate(lines, 1) if not line.fullmatch(it) or int(it.partition(",")[0]) != at)
+    NotWhole.where(at := next(wrong, 0), "line", round=at)
+
+
+def rows_of(content, form):
+    """The rows of a report that is whole, in numbers."""
+    return [dict(zip(COLUMNS[form], map(int, it.split(",")))) for it in content.decode().splitlines()[1:]]
 
 
 def report(path, form, rounds):
-    """The rows of a report in a folder. Its scenario's check sum and its own stand beside it, but in folders of the
+    """A report in a folder, which is whole. Its scenario's check sum and its own stand beside it, but in folders of the
     first versions, which lack that of the program too."""
     try:
         content = path.read_bytes()
     except FileNotFoundError:
         raise NotWhole(say("not_there")) from None
-    rows, beside = rows_of(content, form, rounds), path.with_suffix(".sum")
+    look_at(content, form, rounds)
+    beside = path.with_suffix(".sum")
     if beside.exists():
         scenario = path.with_suffix(".toml")
         contents = {scenario.name: scenario.read_bytes(), path.name: content}
         compare(beside.name, beside.read_bytes(), files.check_sums(contents).encode())
     NotWhole.where(not beside.exists() and path.with_name("program").exists(), "no_sum", name=beside.name)
-    return rows
+    return content
 
 
 def compare(name, there, wanted):
@@ -84,11 +97,11 @@ class Runs:
             if wanted is not None and values not in wanted:
                 continue
             with open(file, "rb") as text:
-                top = settings(scenario.read(text, file))
-            refuse_if(top.get("format") not in scenario.FORMATS or "rounds" not in top, say("no_scenario", file=file))
-            refuse_if(top["format"] != (form := form or top["format"]), say("formats", folder=folder))
+                its_form, rounds = length_of(scenario.read(text, file))
+            refuse_if(its_form not in scenario.FORMATS or rounds is None, say("no_scenario", file=file))
+            refuse_if(its_form != (form := form or its_form), say("formats", folder=folder))
             try:
-                self.rows[values] = report(file.with_suffix(".csv"), form, top["rounds"])
+                self.rows[values] = rows_of(report(file.with_suffix(".csv"), form, rounds), form)
                 self.without_sum += not file.with_suffix(".sum").exists()
             except NotWhole as why:
                 self.missing[file.stem] = str(why)
